@@ -1,0 +1,2 @@
+pub mod TermLaws
+pub mod Blanks

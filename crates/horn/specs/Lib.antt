@@ -1,0 +1,4 @@
+pub mod Terms
+pub mod Clauses
+pub mod Weights
+pub mod Notation

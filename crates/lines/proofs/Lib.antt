@@ -1,0 +1,9 @@
+pub mod WordLaws
+pub mod FieldLaws
+pub mod Spelt
+pub mod Accepts
+pub mod Readings
+pub mod Runs
+pub mod Stepped
+pub mod Counts
+pub mod ClauseLaws

@@ -1,0 +1,10 @@
+pub mod Limits
+pub mod Words
+pub mod Fields
+pub mod Kinds
+pub mod Lines
+pub mod Grammar
+pub mod Clauses
+pub mod Tokens
+pub mod Said
+pub mod Steps

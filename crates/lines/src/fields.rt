@@ -1,0 +1,44 @@
+// The fields of a line, one after another.
+ghost use mathlib.Core.Path.{_≡_};
+ghost use mathlib.Core.List.{[], _∷_};
+ghost use Prim.Native.Nat.{_<_};
+ghost use lib.ListN.{length};
+ghost use Rattle.std.specs.Options.{Cases as BySome};
+ghost use Rattle.lines.specs.Fields.{after};
+ghost use Rattle.lines.specs.Said.{wordsLeft};
+ghost use Rattle.lines.specs.Tokens.{word};
+use crate::bytes::run_len;
+use crate::tokens::Token;
+use crate::tokens::read_token;
+
+// The fields after one, from its comma on.
+#[derive(Clone, Copy)]
+pub struct Fields<'a> {
+    pub(crate) rest: &'a [u8],
+}
+
+impl<'a> Fields<'a> {
+    pub(crate) fn next_field(&mut self) -> Option<&'a [u8]>
+        ensures value { λ r. ⌜ BySome r (after (now (now (self .entry) .rest)) ≡ []) (λ f. after (now (now (self .entry) .rest)) ≡ now f ∷ after (now (now (self .exit) .rest))) ⌝ }
+        ensures shorter { λ r. ⌜ BySome r (Unit {0}) (λ f. length (now (now (self .exit) .rest)) < length (now (now (self .entry) .rest))) ⌝ }
+    {
+        let [_, line @ ..] = self.rest else {
+            return None;
+        };
+        let n = run_len(line, b',');
+        self.rest = &line[n..];
+        Some(&line[0..n])
+    }
+
+    // The next field as a token; none where no field is left, which in an accepted line is the only case, or where the next has no form.
+    pub fn next_token(&mut self) -> Option<Token<'a>>
+        ensures value { λ r. ⌜ BySome r (wordsLeft (now (self .entry)) ≡ []) (λ t. wordsLeft (now (self .entry)) ≡ word t ∷ wordsLeft (now (self .exit))) ⌝ }
+        ensures shorter { λ r. ⌜ BySome r (Unit {0}) (λ _. length (now (now (self .exit) .rest)) < length (now (now (self .entry) .rest))) ⌝ }
+    {
+        let field = self.next_field()?;
+        match read_token(field, 0) {
+            Ok(token) => Some(token),
+            Err(_) => None,
+        }
+    }
+}

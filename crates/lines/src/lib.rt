@@ -1,0 +1,20 @@
+// Lines: from bytes to a clause or a query, or a fault; and the writing of lines of numbers.
+mod bytes;
+mod faults;
+mod fields;
+mod kind;
+mod line;
+mod reader;
+mod tokens;
+
+pub use faults::CallFault;
+pub use faults::CallFaultFromLine;
+pub use faults::FieldFault;
+pub use faults::LineFault;
+pub use faults::LineFaultFromField;
+pub use fields::Fields;
+pub use kind::Kind;
+pub use line::Line;
+pub use reader::read_clause;
+pub use reader::read_query;
+pub use tokens::Token;
