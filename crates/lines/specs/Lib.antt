@@ -8,3 +8,4 @@ pub mod Clauses
 pub mod Tokens
 pub mod Said
 pub mod Steps
+pub mod Refusals

@@ -1,10 +1,11 @@
-// Lines: from bytes to a clause or a query, or a fault; and the writing of lines of numbers.
+// Lines: from bytes to a clause or a query, or a fault, and the lines that faults are written as.
 mod bytes;
 mod faults;
 mod fields;
 mod kind;
 mod line;
 mod reader;
+mod refusals;
 mod tokens;
 
 pub use faults::CallFault;
@@ -17,4 +18,5 @@ pub use kind::Kind;
 pub use line::Line;
 pub use reader::read_clause;
 pub use reader::read_query;
+pub use refusals::Refusal;
 pub use tokens::Token;

@@ -1,0 +1,48 @@
+-- The number, layer, place and rule of each fault, and the line that says so.
+use mathlib.Core.List.{List, [], _∷_}
+use Prim.Native.Nat.{ℕ}
+use lib.ListN.{length}
+use Rattle.std.specs.declared.option.Option.{Option}
+use Rattle.std.specs.declared.option.Option.the-variants.{Some, None}
+use Rattle.std.specs.declared.result.Result.{Result}
+use Rattle.std.specs.declared.result.Result.the-variants.{Ok, Err}
+use Rattle.lines.specs.declared.faults.FieldFault.{FieldFault}
+use Rattle.lines.specs.declared.faults.FieldFault.the-variants.{Form}
+use Rattle.lines.specs.declared.faults.LineFault.{LineFault}
+use Rattle.lines.specs.declared.faults.LineFault.the-variants.{Field, Length, Header, Missing, LeftOver, Variable, Heavy}
+use Rattle.lines.specs.declared.faults.CallFault.{CallFault}
+use Rattle.lines.specs.declared.faults.CallFault.the-variants.{Line, Buffer}
+use Rattle.lines.specs.declared.refusals.Refusal.{Refusal}
+use Rattle.horn.specs.Notation.{numbered}
+use Rattle.text.specs.Buffers.{fitting}
+
+-- of the field reader: layer 1
+abbrev pub fieldRefusal : FieldFault → Refusal
+fieldRefusal (Form p) = record { number = 2; layer = 1; place = p; rule = 0 }
+
+-- of the line reader: layer 2; what began in a field keeps its number, layer and place
+abbrev pub lineRefusal : LineFault → Refusal
+lineRefusal (Field e) = fieldRefusal e
+lineRefusal Length = record { number = 1; layer = 2; place = 0; rule = 0 }
+lineRefusal (Header p) = record { number = 3; layer = 2; place = p; rule = 0 }
+lineRefusal (Missing p) = record { number = 4; layer = 2; place = p; rule = 0 }
+lineRefusal (LeftOver p) = record { number = 5; layer = 2; place = p; rule = 0 }
+lineRefusal (Variable p) = record { number = 6; layer = 2; place = p; rule = 0 }
+lineRefusal (Heavy p) = record { number = 7; layer = 2; place = p; rule = 0 }
+
+-- of a call: layer 3; what began in a line keeps its number, layer and place
+abbrev pub callRefusal : CallFault → Refusal
+callRefusal (Line e) = lineRefusal e
+callRefusal Buffer = record { number = 10; layer = 3; place = 0; rule = 0 }
+
+-- `R,number,layer,place,rule`
+abbrev pub refusalLine : Refusal → List ℕ
+refusalLine r = numbered 82 (r .number ∷ r .layer ∷ r .place ∷ r .rule ∷ [])
+
+abbrev pub orBuffer : Option ℕ → Result ℕ CallFault
+orBuffer (Some n) = Ok n
+orBuffer None = Err Buffer
+
+-- what a writer of the line answers: its length, or that the buffer is too short
+abbrev pub written : List ℕ → List ℕ → Result ℕ CallFault
+written line buffer = orBuffer (fitting line (length buffer))
