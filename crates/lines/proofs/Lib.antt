@@ -7,3 +7,4 @@ pub mod Runs
 pub mod Stepped
 pub mod Counts
 pub mod ClauseLaws
+pub mod GatherLaws

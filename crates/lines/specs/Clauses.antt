@@ -2,6 +2,7 @@
 use mathlib.Core.Path.{_≡_}
 use mathlib.Core.List.{List}
 use Prim.Native.Nat.{ℕ, _+_}
+use lib.ListN.{take}
 use Rattle.std.specs.declared.result.Result.{Result}
 use Rattle.std.specs.declared.result.Result.the-variants.{Ok, Err}
 use Rattle.lines.specs.declared.kind.Kind.the-variants.{Clause as ClauseLine, Query as QueryLine}
@@ -40,3 +41,7 @@ pub record SpellsQuery (line : List ℕ) (q : Query) : Type 0 where
 -- r is the one thing that the line spells, or a fault where it spells none
 abbrev pub OneReading : {X : Type 0} → (X → Type 0) → Result X LineFault → Type 0
 OneReading {X} Spelt r = (x : X) → (r ≡ Ok x → Spelt x) × (Spelt x → r ≡ Ok x)
+
+-- the first n bytes of a line are read as the whole line is
+abbrev pub EnoughRead : ℕ → Type 0
+EnoughRead n = (line : List ℕ) → (readClause (take n line) ≡ readClause line) × (readQuery (take n line) ≡ readQuery line)

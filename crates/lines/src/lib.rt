@@ -2,6 +2,7 @@
 mod bytes;
 mod faults;
 mod fields;
+mod gather;
 mod kind;
 mod line;
 mod reader;
@@ -14,6 +15,7 @@ pub use faults::FieldFault;
 pub use faults::LineFault;
 pub use faults::LineFaultFromField;
 pub use fields::Fields;
+pub use gather::Gathered;
 pub use kind::Kind;
 pub use line::Line;
 pub use reader::read_clause;
