@@ -33,12 +33,15 @@ impl<'a> Fields<'a> {
     // The next field as a token; none where no field is left, which in an accepted line is the only case, or where the next has no form.
     pub fn next_token(&mut self) -> Option<Token<'a>>
         ensures value { λ r. ⌜ BySome r (wordsLeft (now (self .entry)) ≡ []) (λ t. wordsLeft (now (self .entry)) ≡ word t ∷ wordsLeft (now (self .exit))) ⌝ }
+        ensures same { λ r. ⌜ BySome r (now (self .exit) ≡ now (self .entry)) (λ _. Unit {0}) ⌝ }
         ensures shorter { λ r. ⌜ BySome r (Unit {0}) (λ _. length (now (now (self .exit) .rest)) < length (now (now (self .entry) .rest))) ⌝ }
     {
-        let field = self.next_field()?;
-        match read_token(field, 0) {
-            Ok(token) => Some(token),
-            Err(_) => None,
-        }
+        let mut left = *self;
+        let field = left.next_field()?;
+        let Ok(token) = read_token(field, 0) else {
+            return None;
+        };
+        *self = left;
+        Some(token)
     }
 }
