@@ -1,2 +1,2 @@
-pub mod TermLaws
+pub mod JoinLaws
 pub mod Blanks

@@ -21,7 +21,7 @@ use Rattle.horn.specs.Clauses.{Written, Callable, Callables}
 use Rattle.lines.specs.Lines.{then, okOr, wordAt, cost, weighed, goalOnly, check, push, noted, build}
 use Rattle.lines.specs.Grammar.{Good, Goods}
 use Rattle.horn.specs.Weights.{own, weigh, weighs, under, load}
-use Rattle.horn.proofs.TermLaws.{join-nil, front-more, back-back, count-front, count-back}
+use Rattle.horn.proofs.JoinLaws.{join-nil, front-more, back-back, count-front, count-back}
 use Rattle.lines.proofs.WordLaws.{Spells, field-word}
 
 pub record Accepted (g n price w v : ℕ) (fs : List (List ℕ)) (ts : Written) : Type 0 where

@@ -21,7 +21,7 @@ use Rattle.horn.specs.Clauses.{Written, Callable, Callables}
 use Rattle.lines.specs.Lines.{then, okOr, wordAt, cost, weighed, goalOnly, check, push, noted, build}
 use Rattle.lines.specs.Grammar.{Good, Goods}
 use Rattle.horn.specs.Weights.{own, weigh, weighs, under, load}
-use Rattle.horn.proofs.TermLaws.{join-nil, front-join, back-join}
+use Rattle.horn.proofs.JoinLaws.{join-nil, front-join, back-join}
 use Rattle.lines.proofs.WordLaws.{word-field}
 
 pub arity-for : (f : Name) (n : ℕ) → arity (wordFor f n) ≡ n
