@@ -39,7 +39,8 @@ fn is_namely(b: u8) -> bool
     is_plain(b) || b == b'.' || b == b'-'
 }
 
-fn all_plain(bytes: &[u8]) -> bool
+// Whether there are only letters, digits and `_`.
+pub fn all_plain(bytes: &[u8]) -> bool
     ensures { λ r. ⌜ r ≡ every plain (now (bytes .entry)) ⌝ }
 {
     for b in bytes {
@@ -50,6 +51,7 @@ fn all_plain(bytes: &[u8]) -> bool
     true
 }
 
+// Whether there are only these, `.` and `-`.
 fn all_namely(bytes: &[u8]) -> bool
     ensures { λ r. ⌜ r ≡ every namely (now (bytes .entry)) ⌝ }
 {

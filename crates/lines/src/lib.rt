@@ -9,6 +9,7 @@ mod reader;
 mod refusals;
 mod tokens;
 
+pub use bytes::all_plain;
 pub use faults::CallFault;
 pub use faults::CallFaultFromLine;
 pub use faults::FieldFault;

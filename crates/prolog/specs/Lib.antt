@@ -1,0 +1,3 @@
+pub mod Prolog
+pub mod Proofread
+pub mod Puts
