@@ -16,24 +16,28 @@ use Rattle.lines.specs.declared.refusals.Refusal.{Refusal}
 use Rattle.horn.specs.Notation.{numbered}
 use Rattle.text.specs.Buffers.{fitting}
 
+-- a refusal that no rule of code is the reason for
+abbrev pub refusal : ℕ → ℕ → ℕ → Refusal
+refusal number layer place = record { number = number; layer = layer; place = place; rule = 0 }
+
 -- of the field reader: layer 1
 abbrev pub fieldRefusal : FieldFault → Refusal
-fieldRefusal (Form p) = record { number = 2; layer = 1; place = p; rule = 0 }
+fieldRefusal (Form p) = refusal 2 1 p
 
 -- of the line reader: layer 2; what began in a field keeps its number, layer and place
 abbrev pub lineRefusal : LineFault → Refusal
 lineRefusal (Field e) = fieldRefusal e
-lineRefusal Length = record { number = 1; layer = 2; place = 0; rule = 0 }
-lineRefusal (Header p) = record { number = 3; layer = 2; place = p; rule = 0 }
-lineRefusal (Missing p) = record { number = 4; layer = 2; place = p; rule = 0 }
-lineRefusal (LeftOver p) = record { number = 5; layer = 2; place = p; rule = 0 }
-lineRefusal (Variable p) = record { number = 6; layer = 2; place = p; rule = 0 }
-lineRefusal (Heavy p) = record { number = 7; layer = 2; place = p; rule = 0 }
+lineRefusal Length = refusal 1 2 0
+lineRefusal (Header p) = refusal 3 2 p
+lineRefusal (Missing p) = refusal 4 2 p
+lineRefusal (LeftOver p) = refusal 5 2 p
+lineRefusal (Variable p) = refusal 6 2 p
+lineRefusal (Heavy p) = refusal 7 2 p
 
 -- of a call: layer 3; what began in a line keeps its number, layer and place
 abbrev pub callRefusal : CallFault → Refusal
 callRefusal (Line e) = lineRefusal e
-callRefusal Buffer = record { number = 10; layer = 3; place = 0; rule = 0 }
+callRefusal Buffer = refusal 10 3 0
 
 -- `R,number,layer,place,rule`
 abbrev pub refusalLine : Refusal → List ℕ

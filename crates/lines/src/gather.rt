@@ -20,7 +20,10 @@ impl Gathered {
     pub fn new() -> Gathered
         ensures { λ r. ⌜ take (r .len) (r .bytes) ≡ [] ⌝ }
     {
-        Gathered { bytes: [0; ENOUGH], len: 0 }
+        Gathered {
+            bytes: [0; ENOUGH],
+            len: 0,
+        }
     }
 
     // One byte more of the line.

@@ -39,8 +39,17 @@ struct Proofreader {
 
 impl Proofreader {
     fn new(heap: Global) -> Proofreader {
-        let totals = Totals { lines: 0, clauses: 0, queries: 0, refused: 0 };
-        Proofreader { line: Gathered::new(), totals, text: Vec::new(heap) }
+        let totals = Totals {
+            lines: 0,
+            clauses: 0,
+            queries: 0,
+            refused: 0,
+        };
+        Proofreader {
+            line: Gathered::new(),
+            totals,
+            text: Vec::new(heap),
+        }
     }
 
     // Some bytes more of the deck: LF ends a line.
@@ -88,7 +97,15 @@ fn main(rt: LibcRuntime) -> io::Result<()> {
     }
     reader.finish()?;
     output.write_all(reader.text.as_slice())?;
-    let Totals { lines, clauses, queries, refused } = reader.totals;
-    writeln!(output, "% {lines} lines: {clauses} clauses, {queries} queries, {refused} refused")?;
+    let Totals {
+        lines,
+        clauses,
+        queries,
+        refused,
+    } = reader.totals;
+    writeln!(
+        output,
+        "% {lines} lines: {clauses} clauses, {queries} queries, {refused} refused"
+    )?;
     output.flush()
 }

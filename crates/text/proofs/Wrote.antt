@@ -25,10 +25,10 @@ wrote-more out at xs ys h =
     let is : wrote out at xs ≡ front ++ drop (at + length xs) out = sym (append-assoc (take at out) xs (drop (at + length xs) out)) in
     let t : take (at + length xs) (wrote out at xs) ≡ front = ap (take (at + length xs)) is ∙ take-at front (drop (at + length xs) out) (at + length xs) size in
     let d : drop (at + length xs + length ys) (wrote out at xs) ≡ drop (at + length (xs ++ ys)) out =
-        sym (drop-drop (length ys) (at + length xs) (wrote out at xs))
-        ∙ ap (drop (length ys)) (ap (drop (at + length xs)) is ∙ drop-at front (drop (at + length xs) out) (at + length xs) size)
-        ∙ drop-drop (length ys) (at + length xs) out
-        ∙ ap (λ k. drop k out) (omega (arith, length-append xs ys)) in
+    sym (drop-drop (length ys) (at + length xs) (wrote out at xs))
+    ∙ ap (drop (length ys)) (ap (drop (at + length xs)) is ∙ drop-at front (drop (at + length xs) out) (at + length xs) size)
+    ∙ drop-drop (length ys) (at + length xs) out
+    ∙ ap (λ k. drop k out) (omega (arith, length-append xs ys)) in
     ap₂ (λ (x z : List ℕ). x ++ (ys ++ z)) t d
     ∙ append-assoc (take at out) xs (ys ++ drop (at + length (xs ++ ys)) out)
     ∙ ap (λ z. take at out ++ z) (sym (append-assoc xs ys (drop (at + length (xs ++ ys)) out)))

@@ -32,9 +32,10 @@ loop-n-again c =
     let size = length-more ns i lt in
     let is = c .put-decimal-end .ensures .after in
     let at = c .put-decimal-end .ensures .end in
-    let long : length (c .put-decimal-end .last .out) ≡ length out = ap length is ∙ length-wrote (set out end 44) (end + 1) d (omega (arith, size, c .loop-n .inv .0, length-set out end 44)) ∙ length-set out end 44 in
-    (omega (arith, at, size, long, c .loop-n .inv .0),
-      ap₂ (λ o k. wrote o k (left ns (i + 1))) is at ∙ put-more ns i out end lt (c .loop-n .inv .0) ∙ c .loop-n .inv .1)
+    let long : length (c .put-decimal-end .last .out) ≡ length out = ap length is ∙ length-wrote (set out end 44) (end + 1) d (omega (arith, size, c .loop-n .inv .0, length-set out end 44)) ∙ length-set out end 44 in (
+      omega (arith, at, size, long, c .loop-n .inv .0),
+      ap₂ (λ o k. wrote o k (left ns (i + 1))) is at ∙ put-more ns i out end lt (c .loop-n .inv .0) ∙ c .loop-n .inv .1,
+    )
 
 pub returns : need.returns
 returns c =
