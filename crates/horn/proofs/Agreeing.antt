@@ -9,11 +9,11 @@ use Rattle.horn.specs.Terms.{Terms, var, nil, evals}
 use Rattle.horn.specs.Clauses.{Variable, Query, Callables}
 use Rattle.horn.specs.Weights.{queryWeight}
 use Rattle.horn.specs.Paths.{Path}
-use Rattle.horn.specs.Equations.{Deck, Standing, Valuation, Solves, clauseAt, asked, standing, weightOf, clausesWeight}
+use Rattle.horn.specs.Equations.{Deck, Standing, Valuation, Solves, clauseAt, asked, standing, weightOf, clausesWeight, Proper}
 use Rattle.horn.specs.Answers.{Values, Solution}
-use Rattle.horn.specs.Walk.{deckTree}
+use Rattle.horn.specs.Walk.{deckTree, SameTree}
 use Rattle.horn.specs.Instances.{Leads, ruleAt, rulesWeight, programOf, instanceTree}
-use Rattle.horn.specs.Theorems.{Proper, SameTree, Agreement}
+use Rattle.horn.specs.Theorems.{Agreement}
 use Rattle.horn.proofs.TermLaws.{evals-evals, each, unnil}
 use Rattle.horn.proofs.Leading.{part, into}
 use Rattle.horn.proofs.Assembling.{Assembled, back, settled-asked}

@@ -10,9 +10,8 @@ use Rattle.std.proofs.shelf.Tests.{cond-true, cond-false, eq-eqb, ne-eqb}
 use Rattle.horn.specs.Terms.{Term, Terms, var, node, nil, cons, join, eval, evals}
 use Rattle.horn.specs.Clauses.{Variable, Clause, Query, Callable, Callables}
 use Rattle.horn.specs.Paths.{Path}
-use Rattle.horn.specs.Equations.{Deck, Apart, Standing, Valuation, Solves, clauseAt, renameds, sameSymbol, taking, taken, follow, asked}
+use Rattle.horn.specs.Equations.{Deck, Apart, Standing, Valuation, Solves, clauseAt, renameds, sameSymbol, taking, taken, follow, asked, Proper}
 use Rattle.horn.specs.Instances.{Leads, ruleAt, clauseRule, headName, programOf}
-use Rattle.horn.specs.Theorems.{Proper}
 use Rattle.horn.proofs.TermLaws.{eval-eval, evals-evals, each, uncons, callables-join, meet}
 use Rattle.horn.proofs.Leading.{part, body}
 

@@ -12,9 +12,8 @@ use Rattle.horn.specs.Terms.{Term, Terms, var, nil, cons}
 use Rattle.horn.specs.Clauses.{Query, Clause}
 use Rattle.horn.specs.Paths.{Path}
 use Rattle.horn.specs.Equations.{Deck, Apart, Standing, Valuation, Solves, clauseAt, sameSymbol, taking, taken, follow, asked, standing}
-use Rattle.horn.specs.Walk.{Grown, deckTree}
+use Rattle.horn.specs.Walk.{Grown, deckTree, Posable}
 use Rattle.horn.specs.Search.{NoneLeft}
-use Rattle.horn.specs.Theorems.{Posable}
 
 -- what holds of the standing, if there is one
 pub known : {A : Type 0} (o : Option A) (P : A → Type 0) → Cases o ⊥ P → (a : A) × (o ≡ Some a) × P a

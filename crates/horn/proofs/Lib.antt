@@ -13,7 +13,5 @@ pub mod SameTrees
 pub mod SamePrograms
 pub mod Lines
 pub mod Transcripts
-pub mod Looping
-pub mod Working
 pub mod JoinLaws
 pub mod Blanks

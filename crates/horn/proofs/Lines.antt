@@ -22,11 +22,11 @@ use Rattle.horn.proofs.TermLaws.{eval-eval, eval-on}
 -- what each variable keeps, all keep
 module _ {V A : Type 0} (f : V → A → A) (I : A → Type 0) where
   mutual
-    through-keeps : (t : Term V) → ((v : V) → Occurs v t → (a : A) → I a → I (f v a)) → (a : A) → I a → I (through f t a)
+    pub through-keeps : (t : Term V) → ((v : V) → Occurs v t → (a : A) → I a → I (f v a)) → (a : A) → I a → I (through f t a)
     through-keeps (var v) h a i = h v refl a i
     through-keeps (node g ts) h a i = throughs-keeps ts h a i
 
-    throughs-keeps : (ts : Terms V) → ((v : V) → OccursIn v ts → (a : A) → I a → I (f v a)) → (a : A) → I a → I (throughs f ts a)
+    pub throughs-keeps : (ts : Terms V) → ((v : V) → OccursIn v ts → (a : A) → I a → I (f v a)) → (a : A) → I a → I (throughs f ts a)
     throughs-keeps nil h a i = i
     throughs-keeps (cons t ts) h a i = throughs-keeps ts (λ v o. h v (inr o)) (through f t a) (through-keeps t (λ v o. h v (inl o)) a i)
 
@@ -39,7 +39,7 @@ all-note P same x (y ∷ ys) p h = (h .0, go (all-note P same x ys p (h .1)) (sa
     go ih false = ih
 
 -- the names are those of variables
-names-occur : (q : Query) → All (λ v. OccursIn (named v) q) (namesOf q)
+pub names-occur : (q : Query) → All (λ v. OccursIn (named v) q) (namesOf q)
 names-occur q = throughs-keeps noteName (All (λ v. OccursIn (named v) q)) q step [] tt
   where
     step : (v : Variable) → OccursIn v q → (vs : List Name) → All (λ v. OccursIn (named v) q) vs → All (λ v. OccursIn (named v) q) (noteName v vs)

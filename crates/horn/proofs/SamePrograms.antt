@@ -3,9 +3,9 @@ use mathlib.Core.Path.{_≡_, refl, sym, ap, ap₂, _∙_}
 use mathlib.Core.List.{List, [], _∷_}
 use Prim.Native.Nat.{ℕ, zero, suc, _+_}
 use Rattle.horn.specs.Terms.{Terms, node, cons, join}
+use Rattle.horn.specs.Walk.{SameTree}
 use Rattle.horn.specs.Paths.{Path}
 use Rattle.horn.specs.Instances.{Rule, ruleAt, Leads, rulesWeight, ruleTree, SameRule, SameRules}
-use Rattle.horn.specs.Theorems.{SameTree}
 
 rules-turned : (rs ss : List Rule) → SameRules rs ss → SameRules ss rs
 rules-turned [] [] h = tt

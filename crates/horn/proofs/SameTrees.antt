@@ -3,8 +3,7 @@ use mathlib.Core.Path.{sym, subst, _∙_}
 use mathlib.Core.List.{[]}
 use Prim.Native.Nat.{ℕ, _<_, _≤_}
 use Rattle.horn.specs.Paths.{Path}
-use Rattle.horn.specs.Walk.{Tree, Grown, Breaks, past-fuel, too-long, too-heavy, Over, FirstOver, Walked, Hit, Answered, Exhausted, Stopped, weightLimit}
-use Rattle.horn.specs.Theorems.{SameTree}
+use Rattle.horn.specs.Walk.{Tree, Grown, Breaks, past-fuel, too-long, too-heavy, Over, FirstOver, Walked, Hit, Answered, Exhausted, Stopped, weightLimit, SameTree}
 use Rattle.horn.proofs.Listing.{count-stays}
 
 pub turned : {t u : Tree} → SameTree t u → SameTree u t

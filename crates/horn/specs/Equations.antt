@@ -8,7 +8,7 @@ use Rattle.std.specs.Options.{Cases}
 use Rattle.std.specs.declared.option.Option.{Option}
 use Rattle.std.specs.declared.option.Option.the-variants.{None, Some}
 use Rattle.horn.specs.Terms.{Name, Term, Terms, var, node, nil, cons, count, join, eval, evals}
-use Rattle.horn.specs.Clauses.{Variable, Clause, Query}
+use Rattle.horn.specs.Clauses.{Variable, Clause, Query, Callable, Callables}
 use Rattle.horn.specs.Weights.{clauseWeight, queryWeight}
 use Rattle.horn.specs.Paths.{Path}
 
@@ -22,6 +22,11 @@ clauseAt [] n = None
 clauseAt (c ∷ cs) zero = None
 clauseAt (c ∷ cs) (suc zero) = Some c
 clauseAt (c ∷ cs) (suc (suc n)) = clauseAt cs (suc n)
+
+-- heads and goals are no variables
+abbrev pub Proper : Deck → Type 0
+Proper [] = Unit {0}
+Proper (c ∷ cs) = Callable (c .head) × Callables (c .goals) × Proper cs
 
 -- a variable of a path, with its entry: 0 for the query's, k for those of the clause that was entered k-th
 abbrev pub Apart : Type 0

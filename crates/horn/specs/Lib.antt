@@ -10,4 +10,3 @@ pub mod Instances
 pub mod Search
 pub mod Transcript
 pub mod Theorems
-pub mod Worked

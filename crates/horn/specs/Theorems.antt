@@ -1,14 +1,13 @@
 -- What is proved about these definitions.
 use mathlib.Core.Path.{_≡_}
-use mathlib.Core.List.{List, [], _∷_}
+use mathlib.Core.List.{List}
 use mathlib.Core.Logic.{_⊎_, _↔_}
-use Prim.Native.Nat.{ℕ, _+_, _≤_}
-use Rattle.horn.specs.Terms.{Terms, nil, evals}
-use Rattle.horn.specs.Clauses.{Query, Callable, Callables}
-use Rattle.horn.specs.Weights.{queryWeight}
+use Prim.Native.Nat.{ℕ, _+_}
+use Rattle.horn.specs.Terms.{Terms, evals}
+use Rattle.horn.specs.Clauses.{Query, Callables}
 use Rattle.horn.specs.Paths.{Path, Before, Rank, Nth}
-use Rattle.horn.specs.Equations.{Deck}
-use Rattle.horn.specs.Walk.{Tree, Grown, Hit, Trod, Answered, Exhausted, Stopped, lineLimit, deckTree}
+use Rattle.horn.specs.Equations.{Deck, Proper}
+use Rattle.horn.specs.Walk.{Tree, Grown, Hit, Trod, Answered, Exhausted, Stopped, Posable, SameTree, deckTree}
 use Rattle.horn.specs.Answers.{Values, Solution, Answer, answerLine}
 use Rattle.horn.specs.Instances.{Leads, programOf, instanceTree}
 use Rattle.horn.specs.Search.{Moves}
@@ -21,7 +20,7 @@ pub record TotalOrder : Type 0 where
   pub transitive : (p q r : Path) → Before p q → Before q r → Before p r
   pub total : (p q : Path) → (p ≡ q) ⊎ (Before p q ⊎ Before q p)
 
--- n-th paths, ranks and counts are unique; after n answers there is one more, the end or a halt, and only one of these
+-- n-th paths, ranks and counts are unique, and after n answers at most one of these holds: one more answer, the end, a halt
 pub record OneReply (t : Tree) (fuel : ℕ) : Type 0 where
   pub one-nth : (p q : Path) (n : ℕ) → Nth (Hit t fuel) p n → Nth (Hit t fuel) q n → p ≡ q
   pub one-rank : (p : Path) (s r : ℕ) → Rank (Trod t fuel) p s → Rank (Trod t fuel) p r → s ≡ r
@@ -36,11 +35,6 @@ pub record OneReply (t : Tree) (fuel : ℕ) : Type 0 where
 abbrev pub Decided : Type 0
 Decided = (deck : Deck) (q : Query) (fuel : ℕ) → OneReply (deckTree deck q) fuel
 
--- what a query line gives: some goal, and at most the weight of a line
-pub record Posable (q : Query) : Type 0 where
-  pub some : q ≡ nil → ⊥
-  pub light : queryWeight q ≤ lineLimit
-
 -- the paths of a deck and a query make a search tree
 abbrev pub DeckGrown : Type 0
 DeckGrown = (deck : Deck) (q : Query) → Posable q → Grown (deckTree deck q)
@@ -49,22 +43,12 @@ DeckGrown = (deck : Deck) (q : Query) → Posable q → Grown (deckTree deck q)
 abbrev pub SearchMoves : Type 0
 SearchMoves = (deck : Deck) (q : Query) (fuel : ℕ) → Posable q → Moves (deckTree deck q) fuel
 
--- heads and goals are no variables
-abbrev pub Proper : Deck → Type 0
-Proper [] = Unit {0}
-Proper (c ∷ cs) = Callable (c .head) × Callables (c .goals) × Proper cs
-
--- the same paths with the same weights
-pub record SameTree (t u : Tree) : Type 0 where
-  pub passable : (p : Path) → t .passable p ↔ u .passable p
-  pub successful : (p : Path) → t .successful p ↔ u .successful p
-  pub weight : (p : Path) → t .weight p ≡ u .weight p
-
 -- solutions of the equations are instances of the clauses: the same paths, and the same values for the query's variables
 pub record Agrees (deck : Deck) (q : Query) : Type 0 where
   pub tree : SameTree (deckTree deck q) (instanceTree deck q)
   pub values : (p : Path) (σ : Values) → Solution deck q p σ ↔ ((hs : Terms ℕ) × Leads (programOf deck) (evals q σ) p hs)
 
+-- so it is where heads and goals are no variables
 abbrev pub Agreement : Type 0
 Agreement = (deck : Deck) (q : Query) → Proper deck → Callables q → Agrees deck q
 

@@ -1,8 +1,12 @@
 -- The walk: which paths of a search tree are walked under a fuel, and what a search answers.
+use mathlib.Core.Path.{_≡_}
 use mathlib.Core.List.{List, [], _∷_, _++_}
+use mathlib.Core.Logic.{_↔_}
 use Prim.Native.Nat.{ℕ, _<_, _≤_}
 use lib.ListN.{length}
+use Rattle.horn.specs.Terms.{nil}
 use Rattle.horn.specs.Clauses.{Query}
+use Rattle.horn.specs.Weights.{queryWeight}
 use Rattle.horn.specs.Paths.{Path, Before, UpTo, In, Ascending, Count, Rank, Nth}
 use Rattle.horn.specs.Equations.{Deck, Passable, Successful, pathWeight}
 
@@ -27,6 +31,11 @@ weightLimit = 4096
 -- how heavy a line may be
 abbrev pub lineLimit : ℕ
 lineLimit = 128
+
+-- what a query line gives: some goal, and at most the weight of a line
+pub record Posable (q : Query) : Type 0 where
+  pub some : q ≡ nil → ⊥
+  pub light : queryWeight q ≤ lineLimit
 
 -- the number of a halt for want of fuel
 abbrev pub fuelHalt : ℕ
@@ -107,3 +116,9 @@ pub record Grown (t : Tree) : Type 0 where
   pub light : t .weight [] ≤ weightLimit
   pub closed : (p r : Path) → t .passable (p ++ r) → t .passable p
   pub counted : (p : Path) → t .passable (p ++ (0 ∷ [])) → ⊥
+
+-- the same paths with the same weights
+pub record SameTree (t u : Tree) : Type 0 where
+  pub passable : (p : Path) → t .passable p ↔ u .passable p
+  pub successful : (p : Path) → t .successful p ↔ u .successful p
+  pub weight : (p : Path) → t .weight p ≡ u .weight p

@@ -1,5 +1,4 @@
 // Each theorem is the contract of a function that does nothing.
-ghost use Rattle.horn.specs.Worked.{Worked};
 ghost use Rattle.horn.specs.Theorems.{TotalOrder, Decided, DeckGrown, SearchMoves, Agreement, OneLine, OneTranscript};
 
 // Dictionary order is a strict total order.
@@ -47,13 +46,6 @@ pub fn line_is_decided() -> u8
 // A query prints one list of lines.
 pub fn transcript_is_decided() -> u8
     ensures { λ _. ⌜ OneTranscript ⌝ }
-{
-    0
-}
-
-// The worked cases print as written.
-pub fn cases_are_worked() -> u8
-    ensures { λ _. ⌜ Worked ⌝ }
 {
     0
 }

@@ -8,16 +8,17 @@ use lib.Dec.{lit≤, lit<}
 use lib.ListN.{length, length-append}
 use Rattle.std.specs.Written.{digits}
 use Rattle.std.specs.declared.option.Option.the-variants.{Some}
 use Rattle.horn.specs.Terms.{Term, var, node, nil, cons, eval}
 use Rattle.horn.specs.Clauses.{named}
 use Rattle.horn.specs.Paths.{Path}
 use Rattle.horn.specs.Equations.{Apart, Standing, Valuation, Solves, taking, taken, standing, follow, asked, clausesWeight}
 use Rattle.horn.specs.Walk.{deckTree, lengthLimit}
 use Rattle.horn.specs.Search.{Moves, Placed, Passing, child}
 use Rattle.horn.specs.Transcript.{Prints, halt}
-use Rattle.horn.specs.Worked.{constant, again, loops, looping, ample, scant}
+use Rattle.sheets.specs.Worked.{ample, scant}
+use Rattle.sheets.proofs.Cases.{constant, again, loops, looping}
 use Rattle.horn.proofs.Following.{known, knowing, follow-append, grows}
 use Rattle.horn.proofs.Placing.{moves}
 
 ones : ℕ → Path
 ones zero = []

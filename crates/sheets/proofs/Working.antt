@@ -5,21 +5,26 @@ use mathlib.Core.List.{List, [], _∷_}
 use Prim.Native.Nat.{ℕ, suc, _+_}
 use native.Mathlib.Omega.{arith}
 use Rattle.std.specs.Written.{digits}
+use Rattle.std.specs.declared.result.Result.the-variants.{Ok}
 use lib.Chars.{codes}
 use lib.Dec.{lit≤, lit<, eqb}
 use Rattle.horn.specs.Terms.{Name, Term, Terms, var, node, nil, cons, eval, evals}
 use Rattle.horn.specs.Clauses.{Variable, named, blank, Query}
 use Rattle.horn.specs.Equations.{Deck, Valuation, sameName}
 use Rattle.horn.specs.Answers.{Values, Instance}
-use Rattle.horn.specs.Walk.{Tree, deckTree}
+use Rattle.horn.specs.Walk.{Tree, deckTree, Posable}
 use Rattle.horn.specs.Search.{Moves, Next}
 use Rattle.horn.specs.Transcript.{Prints, answer, end}
-use Rattle.horn.specs.Theorems.{Posable}
-use Rattle.horn.specs.Worked.{Worked, constant, pairs, pairing, nested, twin, doubled, single, every, both, ample}
+use Rattle.lines.specs.declared.faults.FieldFault.the-variants.{Form}
+use Rattle.lines.specs.declared.faults.LineFault.the-variants.{Field, Missing, LeftOver, Variable as VariableGoal}
+use Rattle.lines.specs.Clauses.{readQuery}
+use Rattle.sheets.specs.Sheets.{deckOf, Printed}
+use Rattle.sheets.specs.Worked.{Worked, ample}
+use Rattle.sheets.proofs.Cases.{constant, pairs, pairing, nested, twin, doubled, single, every, both, loops, looping}
 use Rattle.horn.proofs.TermLaws.{evals-off}
 use Rattle.horn.proofs.Following.{grows, past-last, no-goals}
 use Rattle.horn.proofs.Placing.{moves}
-use Rattle.horn.proofs.Looping.{endless, short}
+use Rattle.sheets.proofs.Looping.{endless, short}
 
 moving : (deck : Deck) (q : Query) → Posable q → Moves (deckTree deck q) ample
 moving deck q h = moves (deckTree deck q) (grows deck q h) ample
@@ -134,5 +139,21 @@ ligatures =
     )
     (end 3 over))
 
+-- the lines of a case are read as its clauses and its query
+sheet : {lines : List (List ℕ)} {line : List ℕ} {fuel : ℕ} {outs : List (List ℕ)} (deck : Deck) (query : Query) → deckOf lines ≡ Ok deck → readQuery line ≡ Ok query → Prints deck query fuel 0 outs → Printed lines line fuel outs
+sheet deck query c q h = record { deck = deck; query = query; clauses-read = c; query-read = q; prints = h }
+
 pub worked : Worked
-worked = record { ligatures = ligatures; infinite = infinite; repeated = repeated; unbound = unbound; endless = endless; short = short }
+unfolding digits
+worked = record {
+  ligatures = sheet pairs pairing refl refl ligatures;
+  infinite = sheet nested twin refl refl infinite;
+  repeated = sheet doubled single refl refl repeated;
+  unbound = sheet every both refl refl unbound;
+  endless = sheet loops looping refl refl endless;
+  short = sheet loops looping refl refl short;
+  variable-head = (VariableGoal 3, refl, refl);
+  argument-missing = (Missing 5, refl, refl);
+  field-over = (LeftOver 5, refl, refl);
+  arity-over = (Field (Form 3), refl, refl);
+}

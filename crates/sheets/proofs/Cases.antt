@@ -1,11 +1,9 @@
--- Worked cases: decks and queries, and what they print.
+-- The clauses and queries of the worked cases, as terms.
 use mathlib.Core.List.{[], _∷_}
-use Prim.Native.Nat.{ℕ}
 use lib.Chars.{codes}
 use Rattle.horn.specs.Terms.{Name, Term, var, node, nil, cons}
 use Rattle.horn.specs.Clauses.{Variable, named, Clause, Query}
 use Rattle.horn.specs.Equations.{Deck}
-use Rattle.horn.specs.Transcript.{Prints}
 
 -- a name alone
 abbrev pub constant : {V : Type 0} → Name → Term V
@@ -69,20 +67,3 @@ loops = again ∷ []
 -- n/1,a
 abbrev pub looping : Query
 looping = cons (node (codes "n") (cons (constant (codes "a")) nil)) nil
-
--- fuel enough for each case
-abbrev pub ample : ℕ
-ample = 10000
-
--- fuel that a loop uses up
-abbrev pub scant : ℕ
-scant = 256
-
--- what they print
-pub record Worked : Type 0 where
-  pub ligatures : Prints pairs pairing ample 0 (codes "A,2,G,ka,L,lig/2,ka.half,ya" ∷ codes "A,2,G,ta,L,lig/2,ta.half,ya" ∷ codes "N,2,3" ∷ [])
-  pub infinite : Prints nested twin ample 0 (codes "N,0,0" ∷ [])
-  pub repeated : Prints doubled single ample 0 (codes "A,1,X,a" ∷ codes "A,1,X,a" ∷ codes "N,2,2" ∷ [])
-  pub unbound : Prints every both ample 0 (codes "A,1,B,_1" ∷ codes "N,1,1" ∷ [])
-  pub endless : Prints loops looping ample 0 (codes "H,22,0,256" ∷ [])
-  pub short : Prints loops looping scant 0 (codes "H,21,0,256" ∷ [])

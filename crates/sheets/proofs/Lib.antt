@@ -1,0 +1,5 @@
+pub mod Cases
+pub mod Looping
+pub mod Working
+pub mod Spellable
+pub mod Sounding
