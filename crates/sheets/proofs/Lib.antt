@@ -3,3 +3,5 @@ pub mod Looping
 pub mod Working
 pub mod Spellable
 pub mod Sounding
+pub mod Labels
+pub mod ReadingBack

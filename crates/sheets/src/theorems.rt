@@ -1,9 +1,17 @@
 // Each theorem is the contract of a function that does nothing.
 ghost use Rattle.sheets.specs.Worked.{Worked};
+ghost use Rattle.sheets.specs.ReadBack.{AnswersReadBack};
 
 // The worked cases print as written, and the faulty lines are refused.
 pub fn cases_are_worked() -> u8
     ensures { λ _. ⌜ Worked ⌝ }
+{
+    0
+}
+
+// An answer line is read back as the answer's terms.
+pub fn answers_read_back() -> u8
+    ensures { λ _. ⌜ AnswersReadBack ⌝ }
 {
     0
 }
