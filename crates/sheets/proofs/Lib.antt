@@ -5,3 +5,4 @@ pub mod Spellable
 pub mod Sounding
 pub mod Labels
 pub mod ReadingBack
+pub mod Printing
