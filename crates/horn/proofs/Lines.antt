@@ -22,7 +22,7 @@ use Rattle.horn.proofs.TermLaws.{eval-eval, eval-on}
 -- what each variable keeps, all keep
 module _ {V A : Type 0} (f : V → A → A) (I : A → Type 0) where
   mutual
-    pub through-keeps : (t : Term V) → ((v : V) → Occurs v t → (a : A) → I a → I (f v a)) → (a : A) → I a → I (through f t a)
+    through-keeps : (t : Term V) → ((v : V) → Occurs v t → (a : A) → I a → I (f v a)) → (a : A) → I a → I (through f t a)
     through-keeps (var v) h a i = h v refl a i
     through-keeps (node g ts) h a i = throughs-keeps ts h a i
 

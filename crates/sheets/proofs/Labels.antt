@@ -1,18 +1,18 @@
 -- Labels of unbound variables: each is a variable's name, and no two variables have one.
-use mathlib.Core.Path.{_≡_, refl, sym, _∙_, ap, subst}
-use mathlib.Core.Bool.{Bool, true, false, cond, _&&_, _||_}
+use mathlib.Core.Path.{_≡_, refl, sym, _∙_, subst}
+use mathlib.Core.Bool.{Bool, true, false, cond, _||_}
 use mathlib.Core.List.{List, [], _∷_, _++_}
 use mathlib.Core.Logic.{inl, inr}
-use Prim.Native.Nat.{ℕ, suc, _+_, _%_, _^_, _≤_, _<_}
+use Prim.Native.Nat.{ℕ, suc, _+_, _%_, _^_, _<_}
 use native.Mathlib.Omega.{arith}
 use lib.Dec.{eqb, leb}
 use lib.ListN.{length}
 use Rattle.std.specs.Written.{decimal}
 use Rattle.std.proofs.shelf.Decimals.{decimal-by-steps, length-decimal-le, same-from-decimal}
-use Rattle.std.proofs.shelf.Tests.{and-from, and-parts, or-left, or-right, le-leb, eq-eqb, eqb-true, cond-true}
+use Rattle.std.proofs.shelf.Tests.{and-from, and-parts, or-left, or-right, le-leb, eq-eqb, eqb-true}
 use Rattle.horn.specs.Terms.{Term, Terms, var, node, nil, cons}
 use Rattle.horn.specs.Answers.{Occurs, OccursIn, note, place, through, throughs, unbound, label, labelIn}
-use Rattle.horn.proofs.Lines.{through-keeps, throughs-keeps}
+use Rattle.horn.proofs.Lines.{throughs-keeps}
 use Rattle.lines.specs.Words.{lower, upper, digit, plain, every, isVariable}
 
 every-append : (p : ℕ → Bool) (xs ys : List ℕ) → every p xs ≡ true → every p ys ≡ true → every p (xs ++ ys) ≡ true

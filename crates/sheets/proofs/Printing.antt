@@ -1,6 +1,5 @@
 -- Clause lines and a query line print one list of lines, since each is read in one way.
-use mathlib.Core.Path.{_≡_, sym, _∙_, ap, subst}
-use Rattle.std.specs.declared.result.Result.the-variants.{Ok}
+use mathlib.Core.Path.{_≡_, sym, _∙_, subst}
 use Rattle.horn.specs.Transcript.{Prints}
 use Rattle.horn.proofs.Transcripts.{one-transcript}
 use Rattle.sheets.specs.Theorems.{OnePrinted}

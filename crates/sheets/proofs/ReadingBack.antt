@@ -7,7 +7,6 @@ use Prim.Native.Nat.{ℕ, suc, _+_, _^_, _≤_, _<_}
 use native.Mathlib.Omega.{arith}
 use lib.ListN.{length, drop}
 use Rattle.std.specs.Written.{decimal}
-use Rattle.std.specs.declared.result.Result.the-variants.{Ok}
 use Rattle.std.specs.shelf.Lists.{All}
 use Rattle.std.proofs.shelf.Elements.{all-weaker}
 use Rattle.horn.specs.Terms.{Name, Term, Terms, var, node, nil, cons, count, eval, evals}
@@ -93,7 +92,7 @@ read-back lines line deck q d e p θ a few =
     let ν = labelIn (unbound ts) in
     let proper = one-query line q .0 e .reading .proper in
     let fit : All (λ v. (isVariable v ≡ true) × Sound (θ (named v))) vs =
-        all-weaker (λ v. OccursIn (named v) q) _ (λ v o. (variables-good q (proper .good) v o, answer-sound deck q p (deck-sound lines deck d) (query-sound line q e) θ a (named v) o)) vs (names-occur q) in
+    all-weaker (λ v. OccursIn (named v) q) _ (λ v o. (variables-good q (proper .good) v o, answer-sound deck q p (deck-sound lines deck d) (query-sound line q e) θ a (named v) o)) vs (names-occur q) in
     let good = shown-good ν θ vs fit (label-good ts few) in
     let short : length vs < 2 ^ 64 = omega (arith, length-goals q [], proper .light) in (
       ν,

@@ -1,35 +1,28 @@
 -- Answers to accepted lines have only symbols that a field can spell.
-use mathlib.Core.Path.{_≡_, refl, sym, _∙_, ap, subst}
+use mathlib.Core.Path.{_≡_, sym, _∙_, ap, subst}
 use mathlib.Core.List.{List, [], _∷_}
-use Prim.Native.Nat.{ℕ, suc, zero, _+_}
+use Prim.Native.Nat.{ℕ, suc, zero}
 use native.Mathlib.Omega.{arith}
-use Rattle.std.specs.declared.option.Option.{Option}
-use Rattle.std.specs.declared.option.Option.the-variants.{None, Some}
-use Rattle.std.specs.declared.result.Result.{Result}
-use Rattle.std.specs.declared.result.Result.the-variants.{Ok, Err}
-use Rattle.horn.specs.Terms.{Term, Terms, var, eval}
+use Rattle.std.specs.declared.option.Option.the-variants.{Some}
+use Rattle.std.specs.declared.result.Result.the-variants.{Ok}
+use Rattle.std.specs.shelf.Lists.{All}
+use Rattle.horn.specs.Terms.{Term, Terms, var}
 use Rattle.horn.specs.Clauses.{Variable, Clause, Query, called}
 use Rattle.horn.specs.Paths.{Path}
 use Rattle.horn.specs.Equations.{Deck, Apart, Equation, Standing, Valuation, Solves, clauseAt, taking, taken, follow, asked, standing}
 use Rattle.horn.specs.Answers.{OccursIn, Values, Solution, Answer}
 use Rattle.horn.proofs.Following.{known, knowing, took, from-some}
-use Rattle.lines.specs.declared.faults.LineFault.{LineFault}
-use Rattle.lines.specs.Lines.{then}
 use Rattle.lines.specs.Clauses.{readClause, readQuery}
 use Rattle.lines.proofs.ClauseLaws.{one-clause, one-query}
 use Rattle.sheets.specs.Sheets.{deckOf}
+use Rattle.sheets.proofs.Decks.{each-clause}
 use Rattle.sheets.proofs.Spellable.{Sound, Sounds, good-sound, goods-sound, sound-off, sounds-off, sound-eval, sounds-eval, sounds-join, clean, sound-clean, clean-eval}
 
 -- a clause's symbols can be spelt
 abbrev SoundClause : Clause → Type 0
 SoundClause c = Sound (c .head) × Sounds (c .goals)
 
--- and those of all clauses
-abbrev SoundDeck : Deck → Type 0
-SoundDeck [] = Unit {0}
-SoundDeck (c ∷ cs) = SoundClause c × SoundDeck cs
-
--- and those of all equations
+-- the symbols of all equations can be spelt
 abbrev SoundAll : List Equation → Type 0
 SoundAll [] = Unit {0}
 SoundAll (e ∷ es) = (Sound (e .0) × Sound (e .1)) × SoundAll es
@@ -38,13 +31,13 @@ record SoundAt (s : Standing) : Type 0 where
   pub equations : SoundAll (s .equations)
   pub goals : Sounds (s .goals)
 
-sound-clause : (deck : Deck) (n : ℕ) (c : Clause) → SoundDeck deck → clauseAt deck n ≡ Some c → SoundClause c
+sound-clause : (deck : Deck) (n : ℕ) (c : Clause) → All SoundClause deck → clauseAt deck n ≡ Some c → SoundClause c
 sound-clause [] n c h e = let z : _≡_ {A = ℕ} 0 1 = cc in absurd (omega arith)
 sound-clause (d ∷ deck) zero c h e = let z : _≡_ {A = ℕ} 0 1 = cc in absurd (omega arith)
 sound-clause (d ∷ deck) (suc zero) c h e = let k : d ≡ c = cc in subst SoundClause k (h .0)
 sound-clause (d ∷ deck) (suc (suc n)) c h e = sound-clause deck (suc n) c (h .1) e
 
-module _ (deck : Deck) (sound : SoundDeck deck) where
+module _ (deck : Deck) (sound : All SoundClause deck) where
   sound-taking : (s : Standing) (g : Term Apart) (gs : Terms Apart) (c : Clause) → SoundAll (s .equations) → Sound g → Sounds gs → SoundClause c → SoundAt (taking s g gs c)
   sound-taking s g gs c es h hs k = record {
     equations = ((h, sound-eval (c .head) _ (k .0) (λ v. tt)), es);
@@ -68,7 +61,7 @@ solves-clean ρ [] h k = tt
 solves-clean ρ (e ∷ es) h k =
     (sym (clean-eval (e .0) ρ (h .0 .0)) ∙ ap clean (k .0) ∙ clean-eval (e .1) ρ (h .0 .1), solves-clean ρ es (h .1) (k .1))
 
-module _ (deck : Deck) (q : Query) (p : Path) (sound : SoundDeck deck) (asks : Sounds q) where
+module _ (deck : Deck) (q : Query) (p : Path) (sound : All SoundClause deck) (asks : Sounds q) where
   solution-clean : (σ : Values) → Solution deck q p σ → Solution deck q p (λ v. clean (σ v))
   solution-clean σ w =
       let h = known (standing deck q p) _ w in
@@ -87,14 +80,8 @@ clause-sound line c e =
     let g = one-clause line c .0 e .reading .proper .good in
     (sound-off (c .head) (λ v. var (called v)) (good-sound _ (g .0)), sounds-off (c .goals) (λ v. var (called v)) (goods-sound _ (g .1)))
 
-pub deck-sound : (lines : List (List ℕ)) (deck : Deck) → deckOf lines ≡ Ok deck → SoundDeck deck
-deck-sound [] deck e = let k : [] ≡ deck = cc in subst SoundDeck k tt
-deck-sound (line ∷ lines) deck e = go (deck-sound lines) (readClause line) refl (deckOf lines) refl e
-  where
-    go : ((cs : Deck) → deckOf lines ≡ Ok cs → SoundDeck cs) → (r : Result Clause LineFault) → readClause line ≡ r → (rs : Result Deck LineFault) → deckOf lines ≡ rs → then (λ e. e) r (λ c. then (λ e. e) rs (λ cs. Ok (c ∷ cs))) ≡ Ok deck → SoundDeck deck
-    go ih (Err x) a rs b e = let z : _≡_ {A = ℕ} 0 1 = cc in absurd (omega arith)
-    go ih (Ok c) a (Err x) b e = let z : _≡_ {A = ℕ} 0 1 = cc in absurd (omega arith)
-    go ih (Ok c) a (Ok cs) b e = let k : c ∷ cs ≡ deck = cc in subst SoundDeck k (clause-sound line c a, ih cs b)
+pub deck-sound : (lines : List (List ℕ)) (deck : Deck) → deckOf lines ≡ Ok deck → All SoundClause deck
+deck-sound = each-clause SoundClause clause-sound
 
 pub query-sound : (line : List ℕ) (q : Query) → readQuery line ≡ Ok q → Sounds q
 query-sound line q e = sounds-off q (λ v. var (called v)) (goods-sound _ (one-query line q .0 e .reading .proper .good))

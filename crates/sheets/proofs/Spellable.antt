@@ -1,7 +1,7 @@
 -- Terms whose symbols a field can spell, and what takes the others out.
 use mathlib.Core.Path.{_≡_, refl, sym, _∙_, ap, ap₂, subst}
 use mathlib.Core.Bool.{Bool, true, false, cond, _&&_}
-use Prim.Native.Nat.{ℕ, suc, zero, _≤_}
+use Prim.Native.Nat.{ℕ, suc, zero}
 use native.Mathlib.Omega.{arith}
 use lib.Dec.{leb}
 use Rattle.std.proofs.shelf.Tests.{and-from, and-parts, cond-true, le-leb}
