@@ -20,10 +20,12 @@ use Rattle.sheets.proofs.Cases.{constant, again, loops, looping}
 use Rattle.horn.proofs.Following.{known, knowing, follow-append, grows}
 use Rattle.horn.proofs.Placing.{moves}
 
+-- the path of k ones
 ones : ℕ → Path
 ones zero = []
 ones (suc k) = child (ones k) 1
 
+-- each variable is a
 ρ : Valuation
 ρ v = constant (codes "a")
 

@@ -27,6 +27,7 @@ abbrev SoundAll : List Equation → Type 0
 SoundAll [] = Unit {0}
 SoundAll (e ∷ es) = (Sound (e .0) × Sound (e .1)) × SoundAll es
 
+-- the symbols of a standing can be spelt
 record SoundAt (s : Standing) : Type 0 where
   pub equations : SoundAll (s .equations)
   pub goals : Sounds (s .goals)

@@ -13,6 +13,7 @@ use Rattle.lines.specs.Limits.{arityLimit}
 use Rattle.lines.specs.Words.{isName, GoodWord}
 use Rattle.lines.specs.Grammar.{Good, Goods}
 
+-- f with n arguments is a symbol that a field can spell
 abbrev pub spellable : Name → ℕ → Bool
 spellable f n = isName f && leb n arityLimit
 

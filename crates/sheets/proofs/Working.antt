@@ -26,6 +26,7 @@ use Rattle.horn.proofs.Following.{grows, past-last, no-goals}
 use Rattle.horn.proofs.Placing.{moves}
 use Rattle.sheets.proofs.Looping.{endless, short}
 
+-- the moves of a case
 moving : (deck : Deck) (q : Query) → Posable q → Moves (deckTree deck q) ample
 moving deck q h = moves (deckTree deck q) (grows deck q h) ample
 
@@ -99,6 +100,7 @@ unbound =
 abbrev answered : Name → Name → Values
 answered letter part = binds ((codes "G", constant letter) ∷ (codes "L", node (codes "lig") (cons (constant part) (cons (constant (codes "ya")) nil))) ∷ [])
 
+-- and what the entered clauses' variables are
 abbrev solving : Name → Name → Valuation
 solving letter part a = cond (eqb (a .0) 0) (answered letter part (a .1)) (binds ((codes "X", constant letter) ∷ (codes "Y", constant (codes "ya")) ∷ (codes "H", constant part) ∷ []) (a .1))
 

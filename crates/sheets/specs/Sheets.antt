@@ -12,7 +12,7 @@ use Rattle.lines.specs.Lines.{then}
 use Rattle.lines.specs.Clauses.{readClause, readQuery}
 use Rattle.lines.specs.Refusals.{lineRefusal, refusalLine}
 
--- the clauses of the lines, or the first line's fault
+-- the clauses of the lines, or the fault of the first line that has one
 abbrev pub deckOf : List (List ℕ) → Result Deck LineFault
 deckOf [] = Ok []
 deckOf (line ∷ lines) = then (λ e. e) (readClause line) (λ c. then (λ e. e) (deckOf lines) (λ cs. Ok (c ∷ cs)))
