@@ -56,6 +56,6 @@ Agreement = (deck : Deck) (q : Query) → Proper deck → Callables q → Agrees
 abbrev pub OneLine : Type 0
 OneLine = (deck : Deck) (q : Query) (p : Path) (θ θ′ : Values) → Answer deck q p θ → Answer deck q p θ′ → answerLine q θ ≡ answerLine q θ′
 
--- a query prints one list of lines
+-- a query prints at most one list of lines
 abbrev pub OneTranscript : Type 0
 OneTranscript = (deck : Deck) (q : Query) (fuel n : ℕ) (ls ls′ : List (List ℕ)) → Prints deck q fuel n ls → Prints deck q fuel n ls′ → ls ≡ ls′

@@ -8,7 +8,7 @@ pub fn order_is_total() -> u8
     0
 }
 
-// The definitions leave one reply after n answers.
+// The definitions leave at most one reply after n answers.
 pub fn replies_are_decided() -> u8
     ensures { λ _. ⌜ Decided ⌝ }
 {
@@ -36,14 +36,14 @@ pub fn equations_are_instances() -> u8
     0
 }
 
-// A path's answer has one line.
+// A path has at most one answer line.
 pub fn line_is_decided() -> u8
     ensures { λ _. ⌜ OneLine ⌝ }
 {
     0
 }
 
-// A query prints one list of lines.
+// A query prints at most one list of lines.
 pub fn transcript_is_decided() -> u8
     ensures { λ _. ⌜ OneTranscript ⌝ }
 {

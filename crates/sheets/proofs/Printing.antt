@@ -1,4 +1,4 @@
--- Clause lines and a query line print one list of lines, since each is read in one way.
+-- Clause lines and a query line print at most one list of lines, since each is read in one way.
 use mathlib.Core.Path.{_≡_, sym, _∙_, subst}
 use Rattle.horn.specs.Transcript.{Prints}
 use Rattle.horn.proofs.Transcripts.{one-transcript}

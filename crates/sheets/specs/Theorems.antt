@@ -9,7 +9,7 @@ use Rattle.horn.specs.Walk.{Posable}
 use Rattle.lines.specs.Clauses.{readQuery}
 use Rattle.sheets.specs.Sheets.{deckOf, Printed}
 
--- clause lines and a query line print one list of lines
+-- clause lines and a query line print at most one list of lines
 abbrev pub OnePrinted : Type 0
 OnePrinted = (lines : List (List ℕ)) (line : List ℕ) (fuel : ℕ) (outs outs′ : List (List ℕ)) → Printed lines line fuel outs → Printed lines line fuel outs′ → outs ≡ outs′
 

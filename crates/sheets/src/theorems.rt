@@ -17,7 +17,7 @@ pub fn answers_read_back() -> u8
     0
 }
 
-// Clause lines and a query line print one list of lines.
+// Clause lines and a query line print at most one list of lines.
 pub fn lines_print_once() -> u8
     ensures { λ _. ⌜ OnePrinted ⌝ }
 {
