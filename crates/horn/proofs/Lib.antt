@@ -1,2 +1,17 @@
+pub mod TermLaws
+pub mod Order
+pub mod Listing
+pub mod Unique
+pub mod Moves
+pub mod Steps
+pub mod Following
+pub mod Placing
+pub mod Leading
+pub mod Assembling
+pub mod Agreeing
+pub mod SameTrees
+pub mod SamePrograms
+pub mod Lines
+pub mod Transcripts
 pub mod JoinLaws
 pub mod Blanks

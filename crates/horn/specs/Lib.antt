@@ -2,3 +2,11 @@ pub mod Terms
 pub mod Clauses
 pub mod Weights
 pub mod Notation
+pub mod Paths
+pub mod Equations
+pub mod Walk
+pub mod Answers
+pub mod Instances
+pub mod Search
+pub mod Transcript
+pub mod Theorems

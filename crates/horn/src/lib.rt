@@ -1,1 +1,2 @@
-// Horn clauses: the definitions that everything else is proved against. Code has no part in them.
+// Horn clauses: the definitions that everything else is proved against, and the theorems about them. Code has no part in them.
+pub mod theorems;

@@ -1,0 +1,10 @@
+pub mod Cases
+pub mod Looping
+pub mod Working
+pub mod Decks
+pub mod Spellable
+pub mod Sounding
+pub mod Labels
+pub mod ReadingBack
+pub mod Printing
+pub mod Fitting

@@ -1,0 +1,4 @@
+pub mod Sheets
+pub mod Worked
+pub mod ReadBack
+pub mod Theorems
