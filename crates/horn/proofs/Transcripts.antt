@@ -5,7 +5,8 @@ use Prim.Native.Nat.{ℕ, _+_}
 use Rattle.horn.specs.Clauses.{Query}
 use Rattle.horn.specs.Equations.{Deck}
 use Rattle.horn.specs.Walk.{deckTree}
-use Rattle.horn.specs.Answers.{AnswerLine, tallyLine, haltLine}
+use Rattle.horn.specs.Answers.{AnswerLine}
+use Rattle.horn.specs.Notation.{tallyLine, haltLine}
 use Rattle.horn.specs.Transcript.{Prints, answer, end, halt}
 use Rattle.horn.specs.Theorems.{OneReply, OneTranscript}
 use Rattle.horn.proofs.Unique.{one-reply}

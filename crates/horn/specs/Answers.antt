@@ -10,7 +10,7 @@ use Rattle.std.specs.Options.{Cases}
 use Rattle.std.specs.Written.{decimal}
 use Rattle.horn.specs.Terms.{Name, Term, Terms, var, node, nil, cons, eval}
 use Rattle.horn.specs.Clauses.{Variable, named, blank, Query}
-use Rattle.horn.specs.Notation.{field, wordss, joined, numbered}
+use Rattle.horn.specs.Notation.{field, wordss, joined}
 use Rattle.horn.specs.Paths.{Path}
 use Rattle.horn.specs.Equations.{Deck, Valuation, Solves, standing, sameName}
 
@@ -103,15 +103,3 @@ answerLine q θ = lineOf θ (namesOf q)
 -- the line of the path's answer
 abbrev pub AnswerLine : Deck → Query → Path → List ℕ → Type 0
 AnswerLine deck q p line = (θ : Values) × Answer deck q p θ × (line ≡ answerLine q θ)
-
--- `N`, after the end
-abbrev pub tallyLine : ℕ → ℕ → List ℕ
-tallyLine answers spent = numbered 78 (answers ∷ spent ∷ [])
-
--- `H`, after a halt
-abbrev pub haltLine : ℕ → ℕ → ℕ → List ℕ
-haltLine number answers spent = numbered 72 (number ∷ answers ∷ spent ∷ [])
-
--- `R`, for a call that is declined
-abbrev pub faultLine : ℕ → ℕ → ℕ → ℕ → List ℕ
-faultLine number layer at rule = numbered 82 (number ∷ layer ∷ at ∷ rule ∷ [])

@@ -49,3 +49,15 @@ joined (f ∷ fs) = f ++ tails fs
 -- a letter and numbers
 abbrev pub numbered : ℕ → List ℕ → List ℕ
 numbered letter ns = letter ∷ tails (map decimal ns)
+
+-- `N`, after the end
+abbrev pub tallyLine : ℕ → ℕ → List ℕ
+tallyLine answers spent = numbered 78 (answers ∷ spent ∷ [])
+
+-- `H`, after a halt
+abbrev pub haltLine : ℕ → ℕ → ℕ → List ℕ
+haltLine number answers spent = numbered 72 (number ∷ answers ∷ spent ∷ [])
+
+-- `R`, for a call that is declined
+abbrev pub faultLine : ℕ → ℕ → ℕ → ℕ → List ℕ
+faultLine number layer at rule = numbered 82 (number ∷ layer ∷ at ∷ rule ∷ [])

@@ -5,7 +5,8 @@ use Rattle.horn.specs.Clauses.{Query}
 use Rattle.horn.specs.Paths.{Path}
 use Rattle.horn.specs.Equations.{Deck}
 use Rattle.horn.specs.Walk.{deckTree, Answered, Exhausted, Stopped}
-use Rattle.horn.specs.Answers.{AnswerLine, tallyLine, haltLine}
+use Rattle.horn.specs.Answers.{AnswerLine}
+use Rattle.horn.specs.Notation.{tallyLine, haltLine}
 
 -- the lines after the first n answers: the next answer and what follows it, or the tally of the end or of the halt
 pub data Prints (deck : Deck) (q : Query) (fuel : ℕ) : ℕ → List (List ℕ) → Type 0 where

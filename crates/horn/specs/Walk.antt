@@ -6,7 +6,7 @@ use Prim.Native.Nat.{ℕ, _<_, _≤_}
 use lib.ListN.{length}
 use Rattle.horn.specs.Terms.{nil}
 use Rattle.horn.specs.Clauses.{Query}
-use Rattle.horn.specs.Weights.{queryWeight}
+use Rattle.horn.specs.Weights.{lineWeightLimit, queryWeight}
 use Rattle.horn.specs.Paths.{Path, Before, UpTo, In, Ascending, Count, Rank, Nth}
 use Rattle.horn.specs.Equations.{Deck, Passable, Successful, pathWeight}
 
@@ -28,14 +28,10 @@ lengthLimit = 256
 abbrev pub weightLimit : ℕ
 weightLimit = 4096
 
--- how heavy a line may be
-abbrev pub lineLimit : ℕ
-lineLimit = 128
-
 -- what a query line gives: some goal, and at most the weight of a line
 pub record Posable (q : Query) : Type 0 where
   pub some : q ≡ nil → ⊥
-  pub light : queryWeight q ≤ lineLimit
+  pub light : queryWeight q ≤ lineWeightLimit
 
 -- the number of a halt for want of fuel
 abbrev pub fuelHalt : ℕ

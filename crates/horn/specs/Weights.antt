@@ -32,3 +32,7 @@ clauseWeight c = load 0 (cons (c .head) (c .goals))
 
 abbrev pub queryWeight : Query → ℕ
 queryWeight q = load 1 q
+
+-- how heavy a line may be
+abbrev pub lineWeightLimit : ℕ
+lineWeightLimit = 128

@@ -6,10 +6,10 @@ use lib.ListN.{length}
 use Rattle.lines.specs.declared.kind.Kind.{Kind}
 use Rattle.horn.specs.Terms.{Name, Term, var, node, nil, cons, count}
 use Rattle.horn.specs.Clauses.{Written, Callables}
-use Rattle.horn.specs.Weights.{load}
+use Rattle.horn.specs.Weights.{lineWeightLimit, load}
 use Rattle.horn.specs.Notation.{variable, field, wordFor, wordss, joined}
 use Rattle.lines.specs.Kinds.{mark, least, heads}
-use Rattle.lines.specs.Limits.{lineLimit, goalLimit, weightLimit}
+use Rattle.lines.specs.Limits.{lineLimit, goalLimit}
 use Rattle.lines.specs.Words.{GoodWord}
 
 -- the letter, the number of goals, and the terms in prefix order
@@ -32,7 +32,7 @@ pub record Proper (k : Kind) (ts : Written) : Type 0 where
   pub callable : Callables ts
   pub some : heads k + least k ≤ count ts
   pub few : count ts ≤ heads k + goalLimit
-  pub light : load (least k) ts ≤ weightLimit
+  pub light : load (least k) ts ≤ lineWeightLimit
   pub short : length (spell k ts) ≤ lineLimit
 
 -- the line spells these terms

@@ -15,7 +15,3 @@ goalLimit = 8
 
 abbrev pub arityLimit : ℕ
 arityLimit = 8
-
--- the weight of a line
-abbrev pub weightLimit : ℕ
-weightLimit = 128

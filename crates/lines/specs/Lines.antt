@@ -15,8 +15,9 @@ use Rattle.lines.specs.declared.faults.LineFault.{LineFault}
 use Rattle.lines.specs.declared.faults.LineFault.the-variants.{Field, Length, Header, Missing, LeftOver, Variable, Heavy}
 use Rattle.horn.specs.Terms.{Name, var, node, nil, cons, front, back}
 use Rattle.horn.specs.Clauses.{Written}
+use Rattle.horn.specs.Weights.{lineWeightLimit}
 use Rattle.horn.specs.Notation.{Word, name, structure, variable, arity}
-use Rattle.lines.specs.Limits.{lineLimit, goalLimit, weightLimit}
+use Rattle.lines.specs.Limits.{lineLimit, goalLimit}
 use Rattle.lines.specs.Kinds.{mark, least, heads}
 use Rattle.lines.specs.Words.{wordOf}
 use Rattle.lines.specs.Fields.{split}
@@ -41,7 +42,7 @@ cost (structure f n) = 2
 cost (variable v) = 1
 
 abbrev pub weighed : ℕ → ℕ → Result ℕ LineFault → Result ℕ LineFault
-weighed p w next = cond (ltb weightLimit w) (Err (Heavy p)) next
+weighed p w next = cond (ltb lineWeightLimit w) (Err (Heavy p)) next
 
 -- a head or goal is no variable
 abbrev pub goalOnly : ℕ → Word → Result ℕ LineFault → Result ℕ LineFault

@@ -1,5 +1,5 @@
 -- The number, layer, place and rule of each fault, and the line that says so.
-use mathlib.Core.List.{List, [], _∷_}
+use mathlib.Core.List.{List}
 use Prim.Native.Nat.{ℕ}
 use lib.ListN.{length}
 use Rattle.std.specs.declared.option.Option.{Option}
@@ -13,7 +13,7 @@ use Rattle.lines.specs.declared.faults.LineFault.the-variants.{Field, Length, 
 use Rattle.lines.specs.declared.faults.CallFault.{CallFault}
 use Rattle.lines.specs.declared.faults.CallFault.the-variants.{Line, Buffer}
 use Rattle.lines.specs.declared.refusals.Refusal.{Refusal}
-use Rattle.horn.specs.Notation.{numbered}
+use Rattle.horn.specs.Notation.{faultLine}
 use Rattle.text.specs.Buffers.{fitting}
 
 -- a refusal that no rule of code is the reason for
@@ -41,7 +41,7 @@ callRefusal Buffer = refusal 10 3 0
 
 -- `R,number,layer,place,rule`
 abbrev pub refusalLine : Refusal → List ℕ
-refusalLine r = numbered 82 (r .number ∷ r .layer ∷ r .place ∷ r .rule ∷ [])
+refusalLine r = faultLine (r .number) (r .layer) (r .place) (r .rule)
 
 abbrev pub orBuffer : Option ℕ → Result ℕ CallFault
 orBuffer (Some n) = Ok n

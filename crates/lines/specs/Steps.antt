@@ -9,14 +9,14 @@ use Rattle.lines.specs.declared.faults.LineFault.{LineFault}
 use Rattle.lines.specs.declared.faults.LineFault.the-variants.{Variable, Heavy}
 use Rattle.lines.specs.declared.reader.Awaited.{Awaited}
 use Rattle.horn.specs.Notation.{Word, name, structure, variable, arity}
-use Rattle.lines.specs.Limits.{weightLimit}
+use Rattle.horn.specs.Weights.{lineWeightLimit}
 use Rattle.lines.specs.Lines.{cost, check}
 
 abbrev pub checkAt : Awaited → ℕ → List (List ℕ) → Result ℕ LineFault
 checkAt s p fs = check (s .goals) (s .need) (s .price) (s .weight) p fs
 
 abbrev pub counted : ℕ → Awaited → Result Awaited LineFault
-counted p s = cond (ltb weightLimit (s .weight)) (Err (Heavy p)) (Ok s)
+counted p s = cond (ltb lineWeightLimit (s .weight)) (Err (Heavy p)) (Ok s)
 
 abbrev pub asGoal : Awaited → Word → Awaited
 asGoal s x = record { goals = s .goals - 1; need = arity x; price = 1; weight = s .weight + s .price }
