@@ -1,0 +1,9 @@
+pub mod Limits
+pub mod Table
+pub mod Instructions
+pub mod Words
+pub mod Tests
+pub mod Rules
+pub mod Passes
+pub mod WellFormed
+pub mod Meaning

@@ -1,0 +1,31 @@
+-- What an accepted clause's code gives its runner, word by word.
+use mathlib.Core.Path.{_≡_}
+use mathlib.Core.Bool.{Bool, true}
+use mathlib.Core.List.{List, [], _∷_, map}
+use Prim.Native.Nat.{ℕ, _≤_, _<_}
+use lib.ListN.{length, getD}
+use Rattle.std.specs.declared.option.Option.{Option}
+use Rattle.std.specs.declared.option.Option.the-variants.{Some, None}
+use Rattle.code.specs.declared.instructions.Instruction.{Instruction}
+use Rattle.code.specs.Instructions.{sets, reads, put}
+use Rattle.code.specs.Words.{decode}
+use Rattle.code.specs.Rules.{opened, ranged, v1, v2, v3, v4, v5, v6, v7}
+
+-- the rules
+pub record Kept (arities : List ℕ) (predicate key : ℕ) (ws : List ℕ) : Type 0 where
+  pub v1-kept : v1 arities ws ≡ true
+  pub v2-kept : v2 (map decode ws) ≡ true
+  pub v3-kept : v3 (map decode ws) ≡ true
+  pub v4-kept : v4 arities (map decode ws) ≡ true
+  pub v5-kept : v5 (opened ws) arities (map decode ws) ≡ true
+  pub v6-kept : v6 (getD arities predicate 0) arities (map decode ws) ≡ true
+  pub v7-kept : v7 key (map decode ws) ≡ true
+
+abbrev pub wordAt : List ℕ → ℕ → Instruction
+wordAt ws i = decode (getD ws i 0)
+
+-- slots and symbols in range, slots few, and each slot that a word reads set by an earlier word
+pub record WellFormed (arities : List ℕ) (ws : List ℕ) : Type 0 where
+  pub few : opened ws ≤ 128
+  pub ranges : (i : ℕ) → i < length ws → ranged (opened ws) arities (wordAt ws i) ≡ true
+  pub earlier : (i y : ℕ) → i < length ws → reads (wordAt ws i) ≡ Some y → (k : ℕ) × ((k < i) × (sets (wordAt ws k) ≡ Some y))
