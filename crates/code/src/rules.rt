@@ -15,7 +15,7 @@ use crate::structures::arity_at;
 use crate::structures::keeps_structures;
 
 // The lowest rule that a clause's code breaks, or 0.
-pub fn broken_rule(code: &[u32], arities: &[u8], predicate: usize, key: usize) -> usize
+pub fn broken_rule(code: &[u32], arities: &[u8], predicate: usize, key: usize) -> u8
     requires { ⌜ every (λ a. leb a 8) (now arities) ≡ true ⌝ }
     ensures { λ r. ⌜ r ≡ broken (now (arities .entry)) predicate key (now (code .entry)) ⌝ }
 {

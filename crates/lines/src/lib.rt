@@ -9,6 +9,8 @@ mod reader;
 mod refusals;
 mod tokens;
 
+pub use bytes::NAME_LIMIT;
+pub use bytes::is_name;
 pub use faults::CallFault;
 pub use faults::CallFaultFromLine;
 pub use faults::FieldFault;
