@@ -15,7 +15,7 @@ use Rattle.code.specs.Rules.{broken}
 use Rattle.image.specs.declared.faults.ImageFault.{ImageFault}
 use Rattle.image.specs.declared.faults.ImageFault.the-variants.{Code}
 use Rattle.image.specs.Checked.{codeFault}
-use Rattle.image.specs.Rows.{row, rowsOf, next, goodRow, rowFault, rowAt, nextAt}
+use Rattle.image.specs.Rows.{row, rowsOf, next, goodRow, rowFault, rowAt, nextAt, nth}
 
 pub rows-more : (ws : List ℕ) (i : ℕ) → 3 * i + 3 ≤ length ws → rowsOf (drop (3 * i) ws) ≡ rowAt ws i ∷ rowsOf (drop (3 * (i + 1)) ws)
 rows-more ws i h =
@@ -93,3 +93,26 @@ module _ (s count : ℕ) (code ws : List ℕ) (i : ℕ) (long : length ws ≡ 3 
       ∙ ap (λ v. cond (eqb v 0) (codeFault ar code (i + 1) (rowsOf (drop (3 * (i + 1)) ws))) (Some (Code (i + 1) v)))
       (ap₂ (λ (x : Row) (m : ℕ). broken ar (x .predicate) (x .key) (take (m - x .start) (drop (x .start) code))) (sym p) end-is ∙ sym e)
       ∙ ap (λ t. cond t (codeFault ar code (i + 1) (rowsOf (drop (3 * (i + 1)) ws))) (Some (Code (i + 1) rule))) f
+
+-- row i of the rows
+shift : (i : ℕ) → 3 * suc i ≡ suc (suc (suc (3 * i)))
+shift i = omega arith
+
+pub nth-some : (ws : List ℕ) (i : ℕ) → 3 * i + 3 ≤ length ws → Some (rowAt ws i) ≡ nth (rowsOf ws) i
+nth-some [] i h = absurd (omega arith)
+nth-some (p ∷ []) i h = absurd (omega arith)
+nth-some (p ∷ k ∷ []) i h = absurd (omega arith)
+nth-some (p ∷ k ∷ s ∷ ws) zero h = refl
+nth-some (p ∷ k ∷ s ∷ ws) (suc i) h =
+    let one : suc (suc (suc (3 * i))) + 1 ≡ suc (suc (suc (3 * i + 1))) = omega arith in
+    let two : suc (suc (suc (3 * i))) + 2 ≡ suc (suc (suc (3 * i + 2))) = omega arith in
+    ap (λ n. Some (row (getD (p ∷ k ∷ s ∷ ws) n 0) (getD (p ∷ k ∷ s ∷ ws) (n + 1) 0) (getD (p ∷ k ∷ s ∷ ws) (n + 2) 0))) (shift i)
+    ∙ ap₂ (λ (m n : ℕ). Some (row (getD ws (3 * i) 0) (getD (p ∷ k ∷ s ∷ ws) m 0) (getD (p ∷ k ∷ s ∷ ws) n 0))) one two
+    ∙ nth-some ws i (omega arith)
+
+pub nth-none : (ws : List ℕ) (i : ℕ) → length ws < 3 * i + 3 → None ≡ nth (rowsOf ws) i
+nth-none [] i h = refl
+nth-none (p ∷ []) i h = refl
+nth-none (p ∷ k ∷ []) i h = refl
+nth-none (p ∷ k ∷ s ∷ ws) zero h = absurd (omega arith)
+nth-none (p ∷ k ∷ s ∷ ws) (suc i) h = nth-none ws i (omega arith)

@@ -42,7 +42,7 @@ all-bytes : (f : List ℕ) → all namely f ≡ true → All (λ b. b < 256) f
 all-bytes [] h = tt
 all-bytes (b ∷ bs) h = let p = and-parts (namely b) (all namely bs) h in (namely-byte b (p .0), all-bytes bs (p .1))
 
-never : {A : Type 0} → false ≡ true → A
+pub never : {A : Type 0} → false ≡ true → A
 never e = let z : _≡_ {A = ℕ} 0 1 = cc in absurd (omega arith)
 
 pub name-bytes : (f : List ℕ) → isName f ≡ true → All (λ b. b < 256) f

@@ -1,7 +1,7 @@
 -- The rows of an image: a clause's predicate, its key, and where its code starts.
 use mathlib.Core.Bool.{Bool, cond, not, _&&_, _||_}
 use mathlib.Core.List.{List, [], _∷_}
-use Prim.Native.Nat.{ℕ, _+_, _-_, _*_}
+use Prim.Native.Nat.{ℕ, zero, suc, _+_, _-_, _*_}
 use lib.Dec.{leb, ltb, eqb}
 use lib.ListN.{getD, take, drop}
 use Rattle.std.specs.declared.option.Option.{Option}
@@ -47,3 +47,9 @@ rowAt ws i = row (getD ws (3 * i) 0) (getD ws (3 * i + 1) 0) (getD ws (3 * i + 2
 
 abbrev pub nextAt : ℕ → ℕ → List ℕ → ℕ → ℕ
 nextAt size count ws i = cond (eqb (i + 1) count) size (rowAt ws (i + 1) .start)
+
+-- row i, if there is one
+abbrev pub nth : List Row → ℕ → Option Row
+nth [] i = None
+nth (r ∷ rs) zero = Some r
+nth (r ∷ rs) (suc i) = nth rs i

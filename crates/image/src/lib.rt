@@ -4,6 +4,7 @@ mod clauses;
 mod faults;
 mod files;
 mod rows;
+mod symbol;
 mod symbols;
 mod view;
 
@@ -12,4 +13,6 @@ pub use faults::ImageFault;
 pub use files::to_bytes;
 pub use files::to_words;
 pub use rows::Row;
+pub use symbol::Symbol;
+pub use symbols::Symbols;
 pub use view::Image;

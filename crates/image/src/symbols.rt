@@ -1,23 +1,50 @@
 // The symbols of an image.
 ghost use mathlib.Core.Path.{_≡_};
-ghost use mathlib.Core.Bool.{true};
+ghost use mathlib.Core.Bool.{true, false};
 ghost use mathlib.Core.List.{[], _++_, map};
 ghost use Prim.Native.Nat.{_≤_, _-_, _*_};
 ghost use lib.Dec.{eqb};
-ghost use lib.ListN.{length, take, replicate};
+ghost use lib.ListN.{length, take, drop, replicate};
 ghost use Rattle.std.specs.Vec.{made};
 ghost use Rattle.std.specs.Options.{mapped};
+ghost use Rattle.std.specs.Options.{Cases as BySome};
 ghost use Rattle.code.specs.Tests.{every, some};
-ghost use Rattle.image.specs.declared.faults.ImageFault.the-variants.{Symbol};
+ghost use Rattle.image.specs.declared.faults.ImageFault.the-variants.{Symbol as BadSymbol};
 ghost use Rattle.image.specs.Bytes.{bytesOf};
-ghost use Rattle.image.specs.Symbols.{extent, symbolsOf, afterSymbols, proper, symbolFault, arity, errPart};
+ghost use Rattle.image.specs.Said.{nextWords, symbolIn};
+ghost use Rattle.image.specs.Symbols.{symbolOf, extent, symbolsOf, afterSymbols, proper, symbolFault, arity, errPart};
 ghost use Rattle.image.specs.Symbols.{same as alike};
 use crate::faults::ImageFault;
+use crate::symbol::Symbol;
 use lines::NAME_LIMIT;
 use lines::is_name;
 
 // The arity of a symbol, at most.
 const ARITY_LIMIT: u32 = 8;
+
+// The symbols at the front of some words.
+#[derive(Clone, Copy)]
+pub struct Symbols<'a> {
+    pub(crate) words: &'a [u32],
+}
+
+impl<'a> Symbols<'a> {
+    // The next symbol, or none where the words begin with none.
+    pub fn next_symbol(&mut self) -> Option<Symbol>
+        ensures value { λ r. ⌜ BySome r (proper (nextWords (now (self .entry))) ≡ false) (λ s. symbolIn s ≡ symbolOf (nextWords (now (self .entry)))) ⌝ }
+        ensures after { λ r. ⌜ BySome r (now (now (self .exit) .words) ≡ now (now (self .entry) .words)) (λ _. now (now (self .exit) .words) ≡ drop (extent (now (now (self .entry) .words))) (now (now (self .entry) .words))) ⌝ }
+    {
+        let words = first_symbol(self.words);
+        if !is_proper(words) {
+            return None;
+        }
+        let name = name_bytes(&words[1..]);
+        let len = (words[0] % 256) as usize;
+        let arity = arity_in(words);
+        self.words = &self.words[words.len()..];
+        Some(Symbol { name, len, arity })
+    }
+}
 
 // The bytes of a name's words, with zeros after them.
 fn name_bytes(words: &[u32]) -> [u8; 32]
@@ -127,7 +154,7 @@ pub(crate) fn check_symbols<'a>(
     arities: &mut [u8],
 ) -> Result<&'a [u32], ImageFault>
     requires { ⌜ count ≤ length (now arities) ⌝ }
-    ensures fault { λ r. ⌜ errPart r ≡ mapped Symbol (symbolFault [] (symbolsOf count (now (words .entry)))) ⌝ }
+    ensures fault { λ r. ⌜ errPart r ≡ mapped BadSymbol (symbolFault [] (symbolsOf count (now (words .entry)))) ⌝ }
     ensures rest { λ r. ⌜ made r (λ l. now l ≡ afterSymbols count (now (words .entry))) ⌝ }
     ensures arities { λ r. ⌜ made r (λ l. take count (now (arities .exit)) ≡ map arity (symbolsOf count (now (words .entry)))) ⌝ }
 {
