@@ -1,6 +1,7 @@
 pub mod Limits
 pub mod Table
 pub mod Instructions
+pub mod Mnemonics
 pub mod Words
 pub mod Tests
 pub mod Rules

@@ -18,19 +18,20 @@ pub(crate) struct Operands {
     symbol: u16,
 }
 
-pub(crate) fn opcode_of(word: u32) -> usize
+// The opcode of a word, and its operands.
+pub fn opcode_of(word: u32) -> usize
     ensures { λ r. ⌜ r ≡ opcode word ⌝ }
 {
     (word / 0x100_0000) as usize
 }
 
-pub(crate) fn first_of(word: u32) -> u8
+pub fn first_of(word: u32) -> u8
     ensures { λ r. ⌜ r ≡ first word ⌝ }
 {
     (word / 0x1_0000 % 0x100) as u8
 }
 
-pub(crate) fn second_of(word: u32) -> u16
+pub fn second_of(word: u32) -> u16
     ensures { λ r. ⌜ r ≡ second word ⌝ }
 {
     (word % 0x1_0000) as u16

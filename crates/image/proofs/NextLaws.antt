@@ -42,5 +42,5 @@ next-is (w ∷ ws) bytes a s e q =
     let r : rest (w ∷ ws) ≡ ws = take-rest (w ∷ ws) 1 in
     let n : length ws ≡ nameWords w = sym (ap length r) ∙ s .words in
     ap₂ symbol
-      (ap (take (sizeOf w)) (e ∙ ap (λ (l : List ℕ). bytesOf l ++ replicate (32 - 4 * length l) 0) r) ∙ take-append-le (sizeOf w) (bytesOf ws) (replicate (32 - 4 * length ws) 0) (omega (arith, length-bytes ws)))
-      q
+    (ap (take (sizeOf w)) (e ∙ ap (λ (l : List ℕ). bytesOf l ++ replicate (32 - 4 * length l) 0) r) ∙ take-append-le (sizeOf w) (bytesOf ws) (replicate (32 - 4 * length ws) 0) (omega (arith, length-bytes ws)))
+    q

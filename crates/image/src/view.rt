@@ -19,7 +19,9 @@ impl<'a> Image<'a> {
     pub fn symbols(self) -> Symbols<'a>
         ensures { λ r. ⌜ now (r .words) ≡ now (self .entry .symbols) ⌝ }
     {
-        Symbols { words: self.symbols }
+        Symbols {
+            words: self.symbols,
+        }
     }
 
     // Row i, from 0, if there is one.
