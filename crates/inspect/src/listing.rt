@@ -13,13 +13,16 @@ use std::error::AnyError;
 use std::fmt::Write;
 
 // The one line of a fault.
-pub fn list_fault(heap: Global, fault: ImageFault) -> Result<String, AllocError> {
-    let refusal = fault.refusal();
-    let number = refusal.number;
-    let layer = refusal.layer;
-    let place = refusal.place;
-    let rule = refusal.rule;
-    format!(heap, "R,{number},{layer},{place},{rule}\n")
+pub fn list_fault(heap: Global, fault: ImageFault) -> Result<String, AnyError> {
+    let mut line = [0u8; 64];
+    let mut text = String::new(heap);
+    if let Ok(len) = fault.refusal().write(&mut line) {
+        for b in line.iter().take(len) {
+            text.push(*b as char)?;
+        }
+    }
+    text.push('\n')?;
+    Ok(text)
 }
 
 // The symbols of an image, by their numbers.
