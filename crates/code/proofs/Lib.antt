@@ -8,3 +8,4 @@ pub mod SlotLaws
 pub mod ArgumentLaws
 pub mod KeyLaws
 pub mod UseLaws
+pub mod ReadyLaws

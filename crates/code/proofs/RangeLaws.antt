@@ -62,7 +62,7 @@ module _ (n : ℕ) (ar : List ℕ) where
       let p = and-parts (legal n ar w) (every (legal n ar) ws) h in
       and-from (ranged n ar (decode w)) (every (ranged n ar) (map decode ws)) (by-opcode (opcode w) (first w) (second w) (p .0)) (legal-ranged ws (p .1))
 
-  sets-inside : (w : Instruction) → ranged n ar w ≡ true → inside n (sets w) ≡ true
+  pub sets-inside : (w : Instruction) → ranged n ar w ≡ true → inside n (sets w) ≡ true
   sets-inside (Allocate m) h = refl
   sets-inside (Get (Fresh y) a) h = and-parts (inRange n ar Slot y) (inRange n ar Argument a) h .0
   sets-inside (Get (Known y) a) h = refl

@@ -6,5 +6,6 @@ pub mod Words
 pub mod Tests
 pub mod Rules
 pub mod Passes
+pub mod Ready
 pub mod WellFormed
 pub mod Meaning

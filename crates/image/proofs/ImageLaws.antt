@@ -15,8 +15,8 @@ use Rattle.std.specs.declared.result.Result.the-variants.{Ok, Err}
 use Rattle.std.proofs.shelf.Lists.{take-at, drop-at, length-append, length-drop, length-take-le, length-map, take-append-drop}
 use Rattle.std.proofs.shelf.Tests.{and-parts, and-from, or-cases, or-left, or-right, eqb-true, eqb-false, eq-eqb, ne-eqb, leb-true, le-leb, cond-true}
 use Rattle.code.specs.Rules.{broken}
-use Rattle.code.specs.WellFormed.{Kept, WellFormed}
-use Rattle.code.proofs.UseLaws.{kept, well-formed}
+use Rattle.code.specs.Tests.{every}
+use Rattle.code.proofs.ReadyLaws.{runnable}
 use Rattle.image.specs.declared.rows.Row.{Row}
 use Rattle.image.specs.declared.view.Image.{Image}
 use Rattle.image.specs.declared.faults.ImageFault.{ImageFault}
@@ -26,7 +26,7 @@ use Rattle.image.specs.Symbols.{Symbol, symbolWords, symbolOf, symbolsOf, afte
 use Rattle.image.specs.Rows.{rowWords, rowsOf, next, codeOf, rowFault}
 use Rattle.image.specs.Checked.{Parts, unless, codeFault, fitting, laidOut, body, isHeader, checked}
 use Rattle.image.specs.Said.{said, partsOf}
-use Rattle.image.specs.Images.{Goods, arities, Proper, laid, ImageOf, OneImage, ClauseKept, ClausesKept}
+use Rattle.image.specs.Images.{Goods, arities, Proper, laid, ImageOf, OneImage, ClauseRunnable, ClausesRunnable}
 use Rattle.image.proofs.SymbolLaws.{symbols-count}
 use Rattle.image.proofs.CutLaws.{Fit, Cut, no-fault, symbols-back, arities-back, symbols-cut, after-cut, cut-from, words-cut, fit-symbols, rows-length, rows-back, rows-cut}
 
@@ -169,22 +169,26 @@ one-image r ws fit e p = (
   (λ h. e ∙ ap checked (sym (h .layout)) ∙ accepts p (h .proper)),
 )
 
--- what the clauses keep
-clause-kept : (ar code : List ℕ) (rs : List Row) (i : ℕ) → codeFault ar code i rs ≡ None → (j : ℕ) → ClauseKept ar code rs j
-clause-kept ar code [] i h j = tt
-clause-kept ar code (r ∷ rs) i h j = go (λ e. clause-kept ar code rs (i + 1) e) (broken ar (r .predicate) (r .key) (codeOf code r (next (length code) rs))) refl h j
+-- the clauses can be run
+low-arities : (ss : List Symbol) → Goods ss → every (λ a. leb a 8) (map (λ s. s .arity) ss) ≡ true
+low-arities [] g = refl
+low-arities (s ∷ ss) g = and-from (leb (s .arity) 8) (every (λ a. leb a 8) (map (λ s. s .arity) ss)) (le-leb (s .arity) 8 (g .0 .1)) (low-arities ss (g .1))
+
+clause-runnable : (ar code : List ℕ) → every (λ a. leb a 8) ar ≡ true → (rs : List Row) (i : ℕ) → codeFault ar code i rs ≡ None → (j : ℕ) → ClauseRunnable ar code rs j
+clause-runnable ar code low [] i h j = tt
+clause-runnable ar code low (r ∷ rs) i h j = go (λ e. clause-runnable ar code low rs (i + 1) e) (broken ar (r .predicate) (r .key) (codeOf code r (next (length code) rs))) refl h j
   where
-    go : (codeFault ar code (i + 1) rs ≡ None → (j : ℕ) → ClauseKept ar code rs j) → (v : ℕ) → broken ar (r .predicate) (r .key) (codeOf code r (next (length code) rs)) ≡ v
-        → cond (eqb v 0) (codeFault ar code (i + 1) rs) (Some (Code (i + 1) v)) ≡ None → (j : ℕ) → ClauseKept ar code (r ∷ rs) j
+    go : (codeFault ar code (i + 1) rs ≡ None → (j : ℕ) → ClauseRunnable ar code rs j) → (v : ℕ) → broken ar (r .predicate) (r .key) (codeOf code r (next (length code) rs)) ≡ v
+        → cond (eqb v 0) (codeFault ar code (i + 1) rs) (Some (Code (i + 1) v)) ≡ None → (j : ℕ) → ClauseRunnable ar code (r ∷ rs) j
     go ih v e h j = by (eqb v 0) refl h j
       where
-        by : (t : Bool) → eqb v 0 ≡ t → cond t (codeFault ar code (i + 1) rs) (Some (Code (i + 1) v)) ≡ None → (j : ℕ) → ClauseKept ar code (r ∷ rs) j
-        by true q h zero =
-            let k = kept ar (r .predicate) (r .key) (codeOf code r (next (length code) rs)) (e ∙ eqb-true v 0 q) in
-            (k, well-formed ar (r .predicate) (r .key) (codeOf code r (next (length code) rs)) k)
+        by : (t : Bool) → eqb v 0 ≡ t → cond t (codeFault ar code (i + 1) rs) (Some (Code (i + 1) v)) ≡ None → (j : ℕ) → ClauseRunnable ar code (r ∷ rs) j
+        by true q h zero = runnable ar (r .predicate) (r .key) (codeOf code r (next (length code) rs)) low (e ∙ eqb-true v 0 q)
         by true q h (suc j) = ih h j
         by false q h j = let z : _≡_ {A = ℕ} 0 1 = cc in absurd (omega arith)
 
-pub clauses-kept : (r : Result Image ImageFault) (ws : List ℕ) → Fit ws → said r ≡ checked ws → made r (λ i. ClausesKept (partsOf i))
-clauses-kept (Ok i) ws fit e = λ j. clause-kept (arities (partsOf i)) (partsOf i .code) (partsOf i .rows) 0 (accepted ws (partsOf i) fit (sym e) .proper .code-sound) j
-clauses-kept (Err e) ws fit h = tt
+pub clauses-runnable : (r : Result Image ImageFault) (ws : List ℕ) → Fit ws → said r ≡ checked ws → made r (λ i. ClausesRunnable (partsOf i))
+clauses-runnable (Ok i) ws fit e =
+    let p = accepted ws (partsOf i) fit (sym e) .proper in
+    λ j. clause-runnable (arities (partsOf i)) (partsOf i .code) (low-arities (partsOf i .symbols) (p .good)) (partsOf i .rows) 0 (p .code-sound) j
+clauses-runnable (Err e) ws fit h = tt

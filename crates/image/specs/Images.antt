@@ -10,7 +10,7 @@ use Rattle.std.specs.declared.result.Result.{Result}
 use Rattle.std.specs.declared.result.Result.the-variants.{Ok}
 use Rattle.lines.specs.Limits.{arityLimit}
 use Rattle.lines.specs.Words.{isName}
-use Rattle.code.specs.WellFormed.{Kept, WellFormed}
+use Rattle.code.specs.WellFormed.{Runnable}
 use Rattle.image.specs.declared.rows.Row.{Row}
 use Rattle.image.specs.declared.faults.ImageFault.{ImageFault}
 use Rattle.image.specs.Limits.{symbolLimit, clauseLimit, codeLimit}
@@ -62,12 +62,11 @@ pub record ImageOf (words : List ℕ) (p : Parts) : Type 0 where
 abbrev pub OneImage : List ℕ → Result Parts ImageFault → Type 0
 OneImage words r = (p : Parts) → (r ≡ Ok p → ImageOf words p) × (ImageOf words p → r ≡ Ok p)
 
--- what the code of clause j, from 0, is known to keep
-abbrev pub ClauseKept : List ℕ → List ℕ → List Row → ℕ → Type 0
-ClauseKept ar code [] j = Unit {0}
-ClauseKept ar code (r ∷ rs) zero =
-    Kept ar (r .predicate) (r .key) (codeOf code r (next (length code) rs)) × WellFormed ar (codeOf code r (next (length code) rs))
-ClauseKept ar code (r ∷ rs) (suc j) = ClauseKept ar code rs j
+-- the code of clause j, from 0, keeps the rules and can be run
+abbrev pub ClauseRunnable : List ℕ → List ℕ → List Row → ℕ → Type 0
+ClauseRunnable ar code [] j = Unit {0}
+ClauseRunnable ar code (r ∷ rs) zero = Runnable ar (r .predicate) (r .key) (codeOf code r (next (length code) rs))
+ClauseRunnable ar code (r ∷ rs) (suc j) = ClauseRunnable ar code rs j
 
-abbrev pub ClausesKept : Parts → Type 0
-ClausesKept p = (j : ℕ) → ClauseKept (arities p) (p .code) (p .rows) j
+abbrev pub ClausesRunnable : Parts → Type 0
+ClausesRunnable p = (j : ℕ) → ClauseRunnable (arities p) (p .code) (p .rows) j

@@ -9,7 +9,7 @@ ghost use Rattle.code.specs.Tests.{every};
 ghost use Rattle.image.specs.Symbols.{symbolsOf, arity};
 ghost use Rattle.image.specs.Checked.{isHeader, fitting, laidOut, body, checked};
 ghost use Rattle.image.specs.Said.{said, partsOf};
-ghost use Rattle.image.specs.Images.{OneImage, ClausesKept};
+ghost use Rattle.image.specs.Images.{OneImage, ClausesRunnable};
 use crate::clauses::check_code;
 use crate::faults::ImageFault;
 use crate::rows::check_rows;
@@ -129,7 +129,7 @@ fn check_words<'a>(words: &'a [u32]) -> Result<Image<'a>, ImageFault>
 pub fn check<'a>(words: &'a [u32]) -> Result<Image<'a>, ImageFault>
     ensures value { λ r. ⌜ said r ≡ checked (now (words .entry)) ⌝ }
     ensures one_image { λ r. ⌜ OneImage (now (words .entry)) (said r) ⌝ }
-    ensures clauses { λ r. ⌜ made r (λ i. ClausesKept (partsOf i)) ⌝ }
+    ensures clauses { λ r. ⌜ made r (λ i. ClausesRunnable (partsOf i)) ⌝ }
 {
     check_words(words)
 }
