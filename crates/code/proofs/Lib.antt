@@ -8,4 +8,5 @@ pub mod SlotLaws
 pub mod ArgumentLaws
 pub mod KeyLaws
 pub mod UseLaws
+pub mod MeaningLaws
 pub mod ReadyLaws

@@ -1,11 +1,8 @@
 -- V3 as a pass.
-use mathlib.Core.Path.{_≡_, refl, sym, _∙_, ap, ap₂, subst}
+use mathlib.Core.Path.{_≡_, refl, sym, _∙_, ap}
 use mathlib.Core.Bool.{Bool, true, false, cond, not, _&&_, _||_}
-use mathlib.Core.List.{List, [], _∷_, map}
-use Prim.Native.Nat.{ℕ, suc, zero}
-use Rattle.std.specs.declared.option.Option.{Option}
+use mathlib.Core.List.{List, [], _∷_}
 use Rattle.std.specs.declared.option.Option.the-variants.{Some, None}
-use Rattle.code.specs.declared.instructions.Operand.{Operand}
 use Rattle.code.specs.declared.instructions.Operand.the-variants.{Fresh, Known, Constant}
 use Rattle.code.specs.declared.instructions.Instruction.{Instruction}
 use Rattle.code.specs.declared.instructions.Instruction.the-variants.{Allocate, Get, GetStructure, Unify, Put, PutStructure, Set, Call, Proceed}

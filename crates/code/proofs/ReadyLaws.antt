@@ -1,17 +1,16 @@
 -- Code that keeps the rules is ready to run.
-use mathlib.Core.Path.{_≡_, refl, sym, _∙_, ap, ap₂, subst}
-use mathlib.Core.Bool.{Bool, true, false, cond, not, _&&_, _||_}
+use mathlib.Core.Path.{_≡_, refl, sym, _∙_, ap, subst}
+use mathlib.Core.Bool.{Bool, true, false, cond, _&&_, _||_}
 use mathlib.Core.Logic.{_⊎_, inl, inr, ⊎-elim}
 use mathlib.Core.List.{List, [], _∷_, map}
 use Prim.Native.Nat.{ℕ, suc, zero, _+_, _-_, _≤_, _<_}
 use native.Mathlib.Omega.{arith}
 use lib.Dec.{eqb, leb, ltb}
-use lib.ListN.{length, getD}
+use lib.ListN.{getD}
 use Rattle.std.specs.declared.option.Option.{Option}
 use Rattle.std.specs.declared.option.Option.the-variants.{Some, None}
 use Rattle.std.proofs.shelf.Tests.{and-parts, or-cases, eqb-true, eq-eqb, leb-true, ltb-true, cond-true, cond-false}
 use Rattle.code.specs.declared.table.Kind.the-variants.{Nothing, Slot, Argument, Constant, Structure}
-use Rattle.code.specs.declared.instructions.Operand.{Operand}
 use Rattle.code.specs.declared.instructions.Operand.the-variants.{Fresh, Known, Constant as Fixed}
 use Rattle.code.specs.declared.instructions.Instruction.{Instruction}
 use Rattle.code.specs.declared.instructions.Instruction.the-variants.{Allocate, Get, GetStructure, Unify, Put, PutStructure, Set, Call, Proceed}
@@ -21,12 +20,13 @@ use Rattle.code.specs.Words.{decode}
 use Rattle.code.specs.Rules.{inRange, ranged, opened, unifies, builds, setBefore, filled, calls, broken}
 use Rattle.code.specs.Rules.{ready as readyAt}
 use Rattle.code.specs.Passes.{inside}
-use Rattle.code.specs.WellFormed.{Kept, Runnable}
-use Rattle.code.specs.Ready.{In, Takes, fills, Piece, Pieces, Shuns, pieceOf, Avoids, Ready}
+use Rattle.code.specs.WellFormed.{Kept, Runnable, symbolsBy}
+use Rattle.code.specs.Ready.{In, Piece, Pieces, Shuns, pieceOf, Avoids, Ready}
 use Rattle.code.proofs.WordLaws.{never}
 use Rattle.code.proofs.RangeLaws.{all-ranged, sets-inside}
 use Rattle.code.proofs.ArgumentLaws.{below-at, every-at}
 use Rattle.code.proofs.UseLaws.{kept, well-formed}
+use Rattle.code.proofs.MeaningLaws.{defined}
 
 none-some : {A : Type 0} {y : ℕ} → None ≡ Some y → A
 none-some e = let z : _≡_ {A = ℕ} 0 1 = cc in absurd (omega arith)
@@ -378,4 +378,10 @@ ready-code ar predicate key ws low k =
 pub runnable : (ar : List ℕ) (predicate key : ℕ) (ws : List ℕ) → every (λ a. leb a 8) ar ≡ true → broken ar predicate key ws ≡ 0 → Runnable ar predicate key ws
 runnable ar predicate key ws low h =
     let k = kept ar predicate key ws h in
-    record { kept = k; formed = well-formed ar predicate key ws k; ready = ready-code ar predicate key ws low k }
+    let r = ready-code ar predicate key ws low k in
+    record {
+      kept = k;
+      formed = well-formed ar predicate key ws k;
+      ready = r;
+      defined = λ names. defined (symbolsBy names ar) (getD ar predicate 0) (opened ws) 9 (map decode ws) r;
+    }

@@ -1,21 +1,20 @@
 -- What the rules give, word by word.
-use mathlib.Core.Path.{_≡_, refl, sym, _∙_, ap, ap₂, subst}
-use mathlib.Core.Bool.{Bool, true, false, cond, not, _&&_, _||_}
+use mathlib.Core.Path.{_≡_, refl, sym, _∙_, ap}
+use mathlib.Core.Bool.{Bool, true, false, cond, _&&_}
 use mathlib.Core.List.{List, [], _∷_, map}
-use mathlib.Core.Logic.{_⊎_, inl, inr}
-use Prim.Native.Nat.{ℕ, suc, zero, _+_, _-_, _≤_, _<_}
+use mathlib.Core.Logic.{inl, inr}
+use Prim.Native.Nat.{ℕ, suc, zero, _-_, _≤_, _<_}
 use native.Mathlib.Omega.{arith}
-use lib.Dec.{eqb, leb, ltb}
+use lib.Dec.{eqb, leb}
 use lib.ListN.{length, getD}
 use Rattle.std.proofs.shelf.Tests.{and-parts, or-cases, eqb-true, leb-true}
 use Rattle.std.specs.declared.option.Option.{Option}
 use Rattle.std.specs.declared.option.Option.the-variants.{Some, None}
 use Rattle.code.specs.declared.instructions.Instruction.{Instruction}
-use Rattle.code.specs.declared.instructions.Instruction.the-variants.{Proceed}
 use Rattle.code.specs.Instructions.{sets, reads}
 use Rattle.code.specs.Words.{decode, opcode, first, second}
 use Rattle.code.specs.Tests.{every, eachAt, is, below, total}
-use Rattle.code.specs.Rules.{builds, setBefore, ready, opened, legal, ranged, allowed, inRange, v1, v2, v3, v4, v5, v6, v7, lowest, broken}
+use Rattle.code.specs.Rules.{builds, setBefore, ready, opened, legal, ranged, allowed, v1, v2, v3, v4, v5, v6, v7, lowest, broken}
 use Rattle.code.specs.Table.{found}
 use Rattle.code.specs.WellFormed.{Kept, WellFormed, wordAt}
 use Rattle.code.proofs.RangeLaws.{all-ranged}

@@ -7,5 +7,5 @@ pub mod Tests
 pub mod Rules
 pub mod Passes
 pub mod Ready
-pub mod WellFormed
 pub mod Meaning
+pub mod WellFormed

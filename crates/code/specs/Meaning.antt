@@ -2,9 +2,9 @@
 use mathlib.Core.Path.{_≡_}
 use mathlib.Core.Bool.{cond}
 use mathlib.Core.List.{List, [], _∷_}
-use Prim.Native.Nat.{ℕ, suc, zero}
+use Prim.Native.Nat.{ℕ, suc, zero, _<_, _≤_}
 use lib.Dec.{eqb}
-use Rattle.horn.specs.Terms.{Name, Term, Terms, var, node, nil, cons, count, eval, evals}
+use Rattle.horn.specs.Terms.{Name, Term, Terms, var, node, nil, cons, eval, evals}
 use Rattle.horn.specs.Clauses.{Variable, Clause}
 use Rattle.code.specs.declared.instructions.Operand.{Operand}
 use Rattle.code.specs.declared.instructions.Operand.the-variants.{Fresh, Known, Constant}
@@ -104,3 +104,11 @@ pub record Denotes (s : Symbols) (p : ℕ) (code : List Instruction) (c : Clause
   pub named : s .name p ≡ headName (c .head)
   pub into : (ts gs : Terms ℕ) → Runs s p code ts gs → Means c ts gs
   pub back : (ts gs : Terms ℕ) → Means c ts gs → Runs s p code ts gs
+
+abbrev pub Alike : (ℕ → Type 0) → Terming → Terming → Type 0
+Alike In α β = (k : ℕ) → In k → α k ≡ β k
+
+-- the meaning is that of the arguments 1 to n and the slots below m alone, and no goal has an argument that was not put
+pub record Defined (s : Symbols) (n m : ℕ) (code : List Instruction) : Type 0 where
+  pub says : (α β σ τ : Terming) → Alike (λ a. (0 < a) × (a ≤ n)) α β → Alike (λ y. y < m) σ τ → Says s code α σ → Says s code β τ
+  pub leaves : (σ τ π ρ : Terming) → Alike (λ y. y < m) σ τ → goals s code σ π ≡ goals s code τ ρ

@@ -1,15 +1,16 @@
 -- What a clause's code that keeps the rules gives.
 use mathlib.Core.Path.{_≡_}
-use mathlib.Core.Bool.{Bool, true}
+use mathlib.Core.Bool.{true}
 use mathlib.Core.List.{List, [], map}
 use Prim.Native.Nat.{ℕ, _+_, _≤_, _<_}
 use lib.ListN.{length, getD}
-use Rattle.std.specs.declared.option.Option.{Option}
-use Rattle.std.specs.declared.option.Option.the-variants.{Some, None}
+use Rattle.std.specs.declared.option.Option.the-variants.{Some}
+use Rattle.horn.specs.Terms.{Name}
 use Rattle.code.specs.declared.instructions.Instruction.{Instruction}
 use Rattle.code.specs.Limits.{argumentLimit}
 use Rattle.code.specs.Ready.{Ready}
-use Rattle.code.specs.Instructions.{sets, reads, put}
+use Rattle.code.specs.Meaning.{Symbols, Defined}
+use Rattle.code.specs.Instructions.{sets, reads}
 use Rattle.code.specs.Words.{decode}
 use Rattle.code.specs.Rules.{opened, ranged, v1, v2, v3, v4, v5, v6, v7}
 
@@ -32,8 +33,13 @@ pub record WellFormed (arities : List ℕ) (ws : List ℕ) : Type 0 where
   pub ranges : (i : ℕ) → i < length ws → ranged (opened ws) arities (wordAt ws i) ≡ true
   pub earlier : (i y : ℕ) → i < length ws → reads (wordAt ws i) ≡ Some y → (k : ℕ) × ((k < i) × (sets (wordAt ws k) ≡ Some y))
 
+-- symbols with these arities
+abbrev pub symbolsBy : (ℕ → Name) → List ℕ → Symbols
+symbolsBy names arities = record { name = names; arity = λ f. getD arities f 0 }
+
 -- all that is known of the code of a clause
 pub record Runnable (arities : List ℕ) (predicate key : ℕ) (ws : List ℕ) : Type 0 where
   pub kept : Kept arities predicate key ws
   pub formed : WellFormed arities ws
   pub ready : Ready (λ f. getD arities f 0) (getD arities predicate 0) (opened ws) (argumentLimit + 1) [] [] (map decode ws)
+  pub defined : (names : ℕ → Name) → Defined (symbolsBy names arities) (getD arities predicate 0) (opened ws) (map decode ws)

@@ -14,6 +14,7 @@ use crate::instructions::Instruction;
 use crate::structures::arity_at;
 use crate::words::decode as decoded;
 
+// How often an argument was met is counted up to two.
 fn bump(c: u8) -> u8
     ensures { λ r. ⌜ r ≡ bumped c ⌝ }
 {
@@ -23,6 +24,7 @@ fn bump(c: u8) -> u8
     c
 }
 
+// The counts once the argument `a` is met; those of 0 do not matter.
 fn note(counts: [u8; 9], a: usize) -> [u8; 9]
     requires { ⌜ a ≤ 8 ⌝ }
     ensures { λ r. ⌜ r ≡ noteArg counts a ⌝ }
@@ -32,6 +34,7 @@ fn note(counts: [u8; 9], a: usize) -> [u8; 9]
     next
 }
 
+// How often argument a + 1 of m should be met.
 fn wanted_at(m: usize, a: usize) -> u8
     ensures { λ r. ⌜ r ≡ wanted m a ⌝ }
 {
@@ -41,6 +44,7 @@ fn wanted_at(m: usize, a: usize) -> u8
     0
 }
 
+// Whether the arguments 1 to m, and none beyond, were met once.
 fn is_full(counts: [u8; 9], m: usize) -> bool
     ensures { λ r. ⌜ r ≡ full m counts ⌝ }
 {
@@ -66,6 +70,7 @@ fn reads_head(code: &[u32], m: usize) -> bool
     is_full(counts, m)
 }
 
+// The counts after an instruction: a call wants its arguments met, and begins anew.
 fn count_word(counts: [u8; 9], word: Instruction, arities: &[u8]) -> Option<[u8; 9]>
     requires { ⌜ put word ≤ 8 ⌝ }
     ensures { λ r. ⌜ r ≡ callNext (now (arities .entry)) counts word ⌝ }
@@ -95,6 +100,7 @@ fn fills_calls(code: &[u32], arities: &[u8]) -> bool
     true
 }
 
+// The head has m arguments.
 pub(crate) fn keeps_arguments(code: &[u32], arities: &[u8], m: usize) -> bool
     requires low { ⌜ m ≤ 8 ⌝ }
     requires arities { ⌜ every (λ a. leb a 8) (now arities) ≡ true ⌝ }

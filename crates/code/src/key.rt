@@ -7,6 +7,7 @@ use crate::instructions::Instruction;
 use crate::instructions::Operand;
 use crate::words::decode as decoded;
 
+// The symbol of a get_structure on the slot.
 fn structure_at(word: Instruction, slot: u8) -> Option<u16>
     ensures { λ r. ⌜ r ≡ structureAt slot word ⌝ }
 {
@@ -30,6 +31,7 @@ fn structure_on(slot: u8, code: &[u32]) -> usize
     0
 }
 
+// What argument 1 is equated with.
 fn argument_one(word: Instruction) -> Option<Operand>
     ensures { λ r. ⌜ r ≡ argumentOne word ⌝ }
 {
@@ -41,6 +43,7 @@ fn argument_one(word: Instruction) -> Option<Operand>
     None
 }
 
+// The key where argument 1 is equated with the operand and the code follows.
 fn key_by(operand: Operand, code: &[u32]) -> usize
     ensures { λ r. ⌜ r ≡ keyBy operand (map decode (now (code .entry))) ⌝ }
 {
@@ -51,6 +54,7 @@ fn key_by(operand: Operand, code: &[u32]) -> usize
     }
 }
 
+// The key of a clause with this code.
 fn key_of(code: &[u32]) -> usize
     ensures { λ r. ⌜ r ≡ keyOf (map decode (now (code .entry))) ⌝ }
 {

@@ -15,6 +15,7 @@ pub(crate) struct Order {
 }
 
 impl Order {
+    // The state after one more instruction, unless it is out of place.
     fn step(self, word: Instruction) -> Option<Order>
         ensures { λ r. ⌜ r ≡ orderStep self word ⌝ }
     {

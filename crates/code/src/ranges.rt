@@ -57,6 +57,7 @@ fn is_structure(value: usize, arities: &[u8]) -> bool
     arities[value] >= 1
 }
 
+// Whether an operand of this kind may have the value.
 fn in_range(kind: Kind, value: usize, slots: usize, arities: &[u8]) -> bool
     ensures { λ r. ⌜ r ≡ inRange slots (now (arities .entry)) kind value ⌝ }
 {
@@ -71,6 +72,7 @@ fn in_range(kind: Kind, value: usize, slots: usize, arities: &[u8]) -> bool
     }
 }
 
+// Whether the word has an opcode and operands in range.
 fn is_legal(word: u32, slots: usize, arities: &[u8]) -> bool
     ensures { λ r. ⌜ r ≡ legal slots (now (arities .entry)) word ⌝ }
 {

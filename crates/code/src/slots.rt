@@ -14,6 +14,8 @@ use crate::instructions::Instruction;
 use crate::structures::arity_at;
 use crate::words::decode as decoded;
 
+// `since` has for each slot 0, or the place from which on it may be read.
+// Whether the slot may be read at place i.
 fn can_read(since: &[usize], i: usize, slot: Option<u8>) -> bool
     requires { ⌜ length (now since) ≡ 256 ⌝ }
     ensures { λ r. ⌜ r ≡ canRead (now (since .entry)) i slot ⌝ }
@@ -27,6 +29,7 @@ fn can_read(since: &[usize], i: usize, slot: Option<u8>) -> bool
     since[y as usize] <= i
 }
 
+// Whether the slot was not set yet.
 fn can_set(since: &[usize], slot: Option<u8>) -> bool
     requires { ⌜ length (now since) ≡ 256 ⌝ }
     ensures { λ r. ⌜ r ≡ canSet (now (since .entry)) slot ⌝ }
@@ -37,6 +40,7 @@ fn can_set(since: &[usize], slot: Option<u8>) -> bool
     since[y as usize] == 0
 }
 
+// The slot may be read from `value` on.
 fn mark(since: &mut [usize], slot: Option<u8>, value: usize)
     requires { ⌜ length (now since) ≡ 256 ⌝ }
     ensures { λ r. ⌜ now (since .exit) ≡ marked (now (since .entry)) slot value ⌝ }
@@ -46,6 +50,7 @@ fn mark(since: &mut [usize], slot: Option<u8>, value: usize)
     }
 }
 
+// Whether each slot below `slots` was set.
 fn all_set(since: &[usize], slots: usize) -> bool
     requires { ⌜ slots ≤ length (now since) ⌝ }
     ensures { λ r. ⌜ r ≡ below slots (λ y. not (eqb (getD (now (since .entry)) y 0) 0)) ⌝ }
@@ -58,6 +63,7 @@ fn all_set(since: &[usize], slots: usize) -> bool
     true
 }
 
+// How many set words follow the instruction, which sets its slot after them.
 fn words_built(word: Instruction, arities: &[u8]) -> usize
     ensures value { λ r. ⌜ r ≡ builds (now (arities .entry)) word ⌝ }
     ensures small { λ r. ⌜ r < 256 ⌝ }

@@ -1,4 +1,4 @@
-// Rule V4: get_structure is followed at once by as many unify words as its symbol's arity, put_structure by as many set words; these stand nowhere else.
+// Rule V4: a structure's words follow it at once, as many as its symbol's arity, and stand nowhere else.
 ghost use mathlib.Core.Path.{_≡_};
 ghost use mathlib.Core.List.{map};
 ghost use Prim.Native.Nat.{_<_};
@@ -16,6 +16,7 @@ pub(crate) struct Due {
     set: usize,
 }
 
+// The arity of a symbol; 0 where there is none of this number.
 pub(crate) fn arity_at(arities: &[u8], symbol: usize) -> usize
     ensures value { λ r. ⌜ r ≡ getD (now (arities .entry)) symbol 0 ⌝ }
     ensures small { λ r. ⌜ r < 256 ⌝ }
@@ -26,6 +27,7 @@ pub(crate) fn arity_at(arities: &[u8], symbol: usize) -> usize
     arities[symbol] as usize
 }
 
+// What is due after an instruction.
 fn due_after(word: Instruction, arities: &[u8]) -> Due
     ensures { λ r. ⌜ r ≡ dueAfter (now (arities .entry)) word ⌝ }
 {
@@ -43,6 +45,7 @@ fn due_after(word: Instruction, arities: &[u8]) -> Due
 }
 
 impl Due {
+    // What is due after one more instruction, unless it is out of place.
     fn step(self, word: Instruction, arities: &[u8]) -> Option<Due>
         ensures { λ r. ⌜ r ≡ dueStep (now (arities .entry)) self word ⌝ }
     {

@@ -136,6 +136,7 @@ fn argument_by(kind: Kind, first: u8, second: u16) -> u8
     }
 }
 
+// The instruction of an opcode, with these operands.
 fn build(opcode: usize, o: Operands) -> Instruction
     ensures { λ r. ⌜ r ≡ built opcode o ⌝ }
 {

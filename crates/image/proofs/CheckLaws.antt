@@ -1,23 +1,23 @@
 -- The check as a whole.
-use mathlib.Core.Path.{_≡_, refl, sym, _∙_, ap, ap₂, subst}
+use mathlib.Core.Path.{_≡_, refl, sym, _∙_, ap, ap₂}
 use mathlib.Core.Bool.{Bool, true, false, cond, not, _&&_, _||_}
 use mathlib.Core.List.{List, [], _∷_, _++_, map}
-use Prim.Native.Nat.{ℕ, suc, zero, _+_, _-_, _*_, _≤_, _<_}
+use Prim.Native.Nat.{ℕ, _+_, _-_, _*_, _≤_}
 use native.Mathlib.Omega.{arith}
-use lib.Dec.{eqb, leb, ltb}
+use lib.Dec.{eqb, leb}
 use lib.ListN.{length, getD, take, drop}
 use lib.Seq.{take-all}
 use Rattle.std.proofs.shelf.Lists.{take-rest, length-map, length-drop}
-use Rattle.std.proofs.shelf.Tests.{and-parts, and-from, cond-true, cond-false, eqb-true}
+use Rattle.std.proofs.shelf.Tests.{and-parts, and-from, cond-true, eqb-true}
 use Rattle.std.specs.Options.{mapped}
 use Rattle.std.specs.declared.option.Option.{Option}
 use Rattle.std.specs.declared.option.Option.the-variants.{Some, None}
 use Rattle.std.specs.declared.result.Result.{Result}
 use Rattle.std.specs.declared.result.Result.the-variants.{Ok, Err}
 use Rattle.image.specs.declared.faults.ImageFault.{ImageFault}
-use Rattle.image.specs.declared.faults.ImageFault.the-variants.{Header, Symbol, Layout, Code}
+use Rattle.image.specs.declared.faults.ImageFault.the-variants.{Symbol, Layout}
 use Rattle.code.specs.Tests.{every, some}
-use Rattle.image.specs.Symbols.{symbolOf, symbolsOf, afterSymbols, symbolFault, arity, arityOf, proper, same, nameWords, sizeOf}
+use Rattle.image.specs.Symbols.{symbolOf, symbolFault, arity, arityOf, proper, same, nameWords, sizeOf}
 use Rattle.image.specs.Bytes.{bytesOf}
 use Rattle.lines.specs.Words.{isName}
 use Rattle.image.specs.Rows.{rowsOf, rowFault}

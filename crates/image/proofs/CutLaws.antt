@@ -2,20 +2,18 @@
 use mathlib.Core.Path.{_≡_, refl, sym, _∙_, ap, ap₂, subst}
 use mathlib.Core.Bool.{Bool, true, false, cond, not, _&&_, _||_}
 use mathlib.Core.List.{List, [], _∷_, _++_, map, append-assoc}
-use Prim.Native.Nat.{ℕ, suc, zero, _+_, _-_, _*_, _/_, _%_, _≤_, _<_, _^_}
+use Prim.Native.Nat.{ℕ, suc, zero, _+_, _-_, _*_, _<_, _^_}
 use native.Mathlib.Omega.{arith}
 use lib.Dec.{eqb}
 use lib.ListN.{length, take, drop}
 use Rattle.std.specs.Joined.{joined}
 use Rattle.std.specs.shelf.Lists.{All}
-use Rattle.std.specs.declared.option.Option.{Option}
 use Rattle.std.specs.declared.option.Option.the-variants.{Some, None}
-use Rattle.std.proofs.shelf.Lists.{take-at, drop-at, take-append-drop, map-append, length-append}
-use Rattle.std.proofs.shelf.Tests.{and-parts, eqb-true, eq-eqb, cond-true, both-ways}
+use Rattle.std.proofs.shelf.Lists.{take-at, drop-at, take-append-drop, map-append}
+use Rattle.std.proofs.shelf.Tests.{and-parts, eqb-true, eq-eqb, both-ways}
 use Rattle.code.specs.Tests.{some}
 use Rattle.image.specs.declared.rows.Row.{Row}
-use Rattle.image.specs.Bytes.{packed}
-use Rattle.image.specs.Symbols.{Symbol, symbolWords, symbolOf, nameWords, extent, symbolsOf, afterSymbols, proper, same, symbolFault, arity}
+use Rattle.image.specs.Symbols.{Symbol, symbolWords, symbolOf, extent, symbolsOf, afterSymbols, proper, same, symbolFault, arity}
 use Rattle.image.specs.Rows.{rowWords, rowsOf}
 use Rattle.image.specs.Images.{Good, Goods, Absent, Apart}
 use Rattle.image.proofs.SpellLaws.{arity-is, words-length, proper-symbol, symbol-words, words-good, words-symbol}

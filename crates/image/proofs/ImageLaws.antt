@@ -2,7 +2,7 @@
 use mathlib.Core.Path.{_≡_, refl, sym, _∙_, ap, ap₂, subst}
 use mathlib.Core.Bool.{Bool, true, false, cond, not, _&&_, _||_}
 use mathlib.Core.List.{List, [], _∷_, _++_, map}
-use Prim.Native.Nat.{ℕ, zero, suc, _+_, _-_, _*_, _≤_, _<_}
+use Prim.Native.Nat.{ℕ, zero, suc, _+_, _-_, _*_, _≤_}
 use native.Mathlib.Omega.{arith}
 use lib.Dec.{eqb, leb}
 use lib.ListN.{length, take, drop}
@@ -13,7 +13,7 @@ use Rattle.std.specs.declared.option.Option.the-variants.{Some, None}
 use Rattle.std.specs.declared.result.Result.{Result}
 use Rattle.std.specs.declared.result.Result.the-variants.{Ok, Err}
 use Rattle.std.proofs.shelf.Lists.{take-at, drop-at, length-append, length-drop, length-take-le, length-map, take-append-drop}
-use Rattle.std.proofs.shelf.Tests.{and-parts, and-from, or-cases, or-left, or-right, eqb-true, eqb-false, eq-eqb, ne-eqb, leb-true, le-leb, cond-true}
+use Rattle.std.proofs.shelf.Tests.{and-parts, and-from, eqb-true, eqb-false, eq-eqb, leb-true, le-leb, cond-true}
 use Rattle.code.specs.Rules.{broken}
 use Rattle.code.specs.Tests.{every}
 use Rattle.code.proofs.ReadyLaws.{runnable}

@@ -1,12 +1,12 @@
 -- Names in words.
-use mathlib.Core.Path.{_≡_, refl, sym, _∙_, ap, ap₂, subst}
-use mathlib.Core.Bool.{Bool, true, false, cond, _&&_}
+use mathlib.Core.Path.{_≡_, refl, sym, _∙_, ap, ap₂}
+use mathlib.Core.Bool.{Bool, false, _&&_}
 use mathlib.Core.List.{List, [], _∷_, _++_, append-assoc}
 use Prim.Native.Nat.{ℕ, suc, zero, _+_, _-_, _*_, _/_, _%_, _≤_, _<_}
 use native.Mathlib.Omega.{arith}
 use lib.Dec.{eqb, leb}
 use lib.ListN.{length, getD, take, drop, set, replicate}
-use Rattle.std.proofs.shelf.Lists.{at-drop-more, at-drop-all, take-rest, take-more, take-all, take-append-le, drop-append-le, length-append, length-replicate, length-take-le, set-append-right}
+use Rattle.std.proofs.shelf.Lists.{take-rest, take-more, take-all, take-append-le, drop-append-le, length-append, length-replicate, length-take-le, set-append-right}
 use Rattle.std.proofs.shelf.Tests.{lt-leb, and-right}
 use Rattle.lines.specs.Limits.{nameLimit, arityLimit}
 use Rattle.lines.specs.Words.{lower, namely, isName}

@@ -1,18 +1,16 @@
 -- Rows by number.
-use mathlib.Core.Path.{_≡_, refl, sym, _∙_, ap, ap₂, subst}
+use mathlib.Core.Path.{_≡_, refl, sym, _∙_, ap, ap₂}
 use mathlib.Core.Bool.{Bool, true, false, cond, not, _&&_, _||_}
-use mathlib.Core.List.{List, [], _∷_, map}
+use mathlib.Core.List.{List, [], _∷_}
 use Prim.Native.Nat.{ℕ, suc, zero, _+_, _-_, _*_, _≤_, _<_}
 use native.Mathlib.Omega.{arith}
 use lib.Dec.{eqb, leb, ltb}
 use lib.ListN.{length, getD, take, drop}
 use Rattle.std.proofs.shelf.Lists.{at-drop-more, at-drop-all}
-use Rattle.std.proofs.shelf.Tests.{cond-true, cond-false, eqb-true, eqb-false, and-parts, leb-true}
-use Rattle.std.specs.declared.option.Option.{Option}
+use Rattle.std.proofs.shelf.Tests.{eqb-true, eqb-false, and-parts, leb-true}
 use Rattle.std.specs.declared.option.Option.the-variants.{Some, None}
 use Rattle.image.specs.declared.rows.Row.{Row}
 use Rattle.code.specs.Rules.{broken}
-use Rattle.image.specs.declared.faults.ImageFault.{ImageFault}
 use Rattle.image.specs.declared.faults.ImageFault.the-variants.{Code}
 use Rattle.image.specs.Checked.{codeFault}
 use Rattle.image.specs.Rows.{row, rowsOf, next, goodRow, rowFault, rowAt, nextAt, nth}

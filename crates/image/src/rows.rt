@@ -12,6 +12,7 @@ pub struct Row {
     pub start: usize,
 }
 
+// Row i, from 0.
 pub(crate) fn row_at(rows: &[u32], i: usize) -> Row
     requires { ⌜ 3 * i + 3 ≤ length (now rows) ⌝ }
     ensures { λ r. ⌜ r ≡ rowAt (now (rows .entry)) i ⌝ }
@@ -35,6 +36,7 @@ pub(crate) fn end_at(rows: &[u32], i: usize, count: usize, size: usize) -> usize
     row_at(rows, i + 1).start
 }
 
+// Whether row i is right, where its code ends at `end`: predicate and key in range, the first start 0, two words or more.
 fn is_good(row: Row, i: usize, symbols: usize, end: usize) -> bool
     requires { ⌜ row .start < 2 ^ 32 ⌝ }
     ensures { λ r. ⌜ r ≡ goodRow symbols i row end ⌝ }

@@ -62,6 +62,7 @@ fn name_bytes(words: &[u32]) -> [u8; 32]
     out
 }
 
+// Whether all bytes are 0.
 fn is_blank(bytes: &[u8]) -> bool
     ensures { λ r. ⌜ r ≡ every (λ b. eqb b 0) (now (bytes .entry)) ⌝ }
 {
@@ -88,6 +89,7 @@ fn first_symbol<'a>(words: &'a [u32]) -> &'a [u32]
     &words[0..n]
 }
 
+// Whether the words are a symbol: not cut off, arity and name right, zeros after the name.
 fn is_proper(symbol: &[u32]) -> bool
     ensures { λ r. ⌜ r ≡ proper (now (symbol .entry)) ⌝ }
 {
@@ -111,6 +113,7 @@ fn is_proper(symbol: &[u32]) -> bool
     is_blank(&bytes[size..])
 }
 
+// Whether the words are the same.
 fn same(a: &[u32], b: &[u32]) -> bool
     ensures { λ r. ⌜ r ≡ alike (now (a .entry)) (now (b .entry)) ⌝ }
 {
@@ -140,6 +143,7 @@ fn repeats(words: &[u32], count: usize, symbol: &[u32]) -> bool
     false
 }
 
+// The arity of a symbol.
 fn arity_in(symbol: &[u32]) -> u8
     requires { ⌜ proper (now symbol) ≡ true ⌝ }
     ensures { λ r. ⌜ r ≡ arity (now (symbol .entry)) ⌝ }

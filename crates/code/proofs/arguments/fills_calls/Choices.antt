@@ -1,8 +1,6 @@
 use mathlib.Core.Path.{_≡_}
-use mathlib.Core.Bool.{true}
-use mathlib.Core.List.{List, map}
-use Prim.Native.Nat.{ℕ}
-use lib.ListN.{drop, length, replicate}
+use mathlib.Core.List.{map}
+use lib.ListN.{drop, replicate}
 use Rattle.code.specs.Passes.{walk, callNext}
 use Rattle.code.specs.Words.{decode}
 use Rattle.code.proofs.ArgumentLaws.{done}

@@ -1,6 +1,6 @@
 use mathlib.Core.Path.{_≡_}
 use mathlib.Core.List.{map}
-use lib.ListN.{drop, length, replicate}
+use lib.ListN.{drop, replicate}
 use Rattle.code.specs.Passes.{notes}
 use Rattle.code.specs.Instructions.{got}
 use Rattle.code.specs.Words.{decode}

@@ -1,6 +1,5 @@
 use mathlib.Core.Path.{sym, ap}
 use native.Mathlib.Omega.{arith}
-use Prim.Native.Nat.{_≤_, _<_}
 use Rattle.code.specs.Words.{built}
 use Rattle.code.proofs.WordLaws.{built-past}
 use Rattle.code.proofs.words.build.Needs as need

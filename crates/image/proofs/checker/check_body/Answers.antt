@@ -1,19 +1,13 @@
-use mathlib.Core.Path.{_≡_, refl, sym, _∙_, ap, subst}
-use mathlib.Core.Bool.{true, false}
-use mathlib.Core.List.{List, [], _∷_, map}
-use Prim.Native.Nat.{ℕ, _*_, _<_, _+_, _-_, _≤_}
+use mathlib.Core.Path.{_≡_, sym, _∙_, ap, subst}
+use mathlib.Core.Bool.{true}
+use mathlib.Core.List.{List, map}
+use Prim.Native.Nat.{ℕ, _-_}
 use native.Mathlib.Omega.{arith}
-use lib.Dec.{eqb, leb}
+use lib.Dec.{leb}
 use Rattle.code.specs.Tests.{every}
-use lib.ListN.{drop, take, length, getD}
-use borrow.Author.Needs.{needs}
-use Rattle.std.proofs.shelf.Lists.{take-rest, length-map}
-use Rattle.std.proofs.shelf.Tests.{and-parts, eqb-true}
-use Rattle.std.specs.declared.option.Option.the-variants.{Some, None}
-use Rattle.image.specs.Symbols.{symbolsOf, arity, symbolFault}
-use Rattle.image.specs.Checked.{checked, fitting}
-use Rattle.image.proofs.SymbolLaws.{symbols-count}
-use Rattle.image.proofs.CheckLaws.{laid-row, laid-code, laid-ok, low-arities, four, rows-part, rows-sound}
+use lib.ListN.{take}
+use Rattle.image.specs.Symbols.{symbolsOf, arity}
+use Rattle.image.proofs.CheckLaws.{low-arities}
 use Rattle.image.proofs.checker.check_body.Needs as need
 
 pub check-layout-requires : need.check-layout-requires

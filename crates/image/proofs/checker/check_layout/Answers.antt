@@ -1,18 +1,11 @@
-use mathlib.Core.Path.{_≡_, refl, sym, _∙_, ap, subst}
-use mathlib.Core.Bool.{true, false}
-use mathlib.Core.List.{List, [], _∷_, map}
-use Prim.Native.Nat.{ℕ, _*_, _<_, _+_, _-_, _≤_}
-use native.Mathlib.Omega.{arith}
-use lib.Dec.{eqb}
-use lib.ListN.{drop, take, length, getD}
+use mathlib.Core.Path.{sym}
+use Prim.Native.Nat.{_*_, _-_}
+use lib.ListN.{drop, take, length}
 use borrow.Author.Needs.{needs}
-use Rattle.std.proofs.shelf.Lists.{take-rest, length-map}
-use Rattle.std.proofs.shelf.Tests.{and-parts, eqb-true}
-use Rattle.std.specs.declared.option.Option.the-variants.{Some, None}
-use Rattle.image.specs.Symbols.{symbolsOf, arity, symbolFault}
-use Rattle.image.specs.Checked.{checked, fitting}
+use Rattle.std.proofs.shelf.Lists.{take-rest}
+use Rattle.image.specs.Symbols.{symbolsOf}
 use Rattle.image.proofs.SymbolLaws.{symbols-count}
-use Rattle.image.proofs.CheckLaws.{laid-row, laid-code, laid-ok, low-arities, four, rows-part, rows-sound}
+use Rattle.image.proofs.CheckLaws.{laid-row, laid-code, laid-ok, rows-part, rows-sound}
 use Rattle.image.proofs.checker.check_layout.Needs as need
 
 pub returns-in-Some : need.returns-in-Some

@@ -1,12 +1,11 @@
-use mathlib.Core.Path.{_≡_, refl, sym, _∙_, ap}
+use mathlib.Core.Path.{sym, _∙_}
 use mathlib.Core.Bool.{true, false}
-use Prim.Native.Nat.{_*_, _<_, _+_, _≤_}
+use Prim.Native.Nat.{_*_, _<_}
 use native.Mathlib.Omega.{arith}
-use lib.ListN.{drop, length}
-use borrow.Author.Needs.{needs}
+use lib.ListN.{length}
 use Rattle.std.proofs.shelf.Lists.{at-drop-all}
 use Rattle.std.proofs.shelf.Tests.{eq-eqb, ne-eqb}
-use Rattle.image.specs.Rows.{rowFault, rowsOf}
+use Rattle.image.specs.Rows.{rowsOf}
 use Rattle.image.specs.Checked.{codeFault}
 use Rattle.image.proofs.RowLaws.{code-turn, start-under, end-under, rest-fine}
 use Rattle.image.proofs.clauses.check_code.Needs as need

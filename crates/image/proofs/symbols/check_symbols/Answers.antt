@@ -1,12 +1,9 @@
-use mathlib.Core.Path.{_≡_, refl, sym, _∙_, ap, subst}
-use mathlib.Core.Bool.{true, false}
-use mathlib.Core.List.{[], map}
+use mathlib.Core.Path.{_≡_, sym, _∙_, ap, subst}
+use mathlib.Core.List.{map}
 use Prim.Native.Nat.{_-_, _+_, _<_}
 use native.Mathlib.Omega.{arith}
-use borrow.Author.Needs.{needs}
 use lib.ListN.{length, take, drop, set}
 use Rattle.std.specs.Options.{mapped}
-use Rattle.std.specs.declared.option.Option.the-variants.{Some, None}
 use Rattle.image.specs.declared.faults.ImageFault.the-variants.{Symbol}
 use Rattle.image.specs.Symbols.{symbolFault, symbolsOf, afterSymbols, arity, extent}
 use Rattle.image.proofs.SymbolLaws.{fault-bad, fault-again, fault-next, arities-next, left-is, none-left, after-more}

@@ -5,7 +5,7 @@ use native.Mathlib.Omega.{arith}
 use borrow.Author.Needs.{needs}
 use lib.ListN.{length, getD, take}
 use Rattle.std.proofs.shelf.Lists.{length-take-le}
-use Rattle.std.proofs.shelf.Tests.{le-leb, lt-leb, ne-eqb, eq-eqb}
+use Rattle.std.proofs.shelf.Tests.{le-leb, eq-eqb}
 use Rattle.lines.specs.Words.{isName}
 use Rattle.image.specs.Bytes.{bytesOf}
 use Rattle.image.specs.Symbols.{nameWords, sizeOf, arityOf}

@@ -1,8 +1,7 @@
-use mathlib.Core.Path.{_≡_, refl, sym, _∙_, ap}
+use mathlib.Core.Path.{sym, _∙_, ap}
 use mathlib.Core.Bool.{true, false}
 use Prim.Native.Nat.{_-_, _+_}
 use native.Mathlib.Omega.{arith}
-use borrow.Author.Needs.{needs}
 use Rattle.code.specs.Tests.{some}
 use Rattle.image.specs.Symbols.{same, symbolsOf}
 use Rattle.image.proofs.SymbolLaws.{some-turn, left-is, none-left}

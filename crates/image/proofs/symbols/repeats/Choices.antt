@@ -1,6 +1,5 @@
 use mathlib.Core.Path.{_≡_}
 use Prim.Native.Nat.{_-_}
-use lib.ListN.{drop}
 use Rattle.code.specs.Tests.{some}
 use Rattle.image.specs.Symbols.{same, symbolsOf}
 use Rattle.image.proofs.symbols.repeats.Given as given

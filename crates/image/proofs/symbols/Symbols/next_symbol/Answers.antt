@@ -1,7 +1,6 @@
-use mathlib.Core.Path.{_≡_, sym, _∙_, ap}
-use mathlib.Core.Bool.{true}
+use mathlib.Core.Path.{sym, _∙_, ap}
 use native.Mathlib.Omega.{arith}
-use Rattle.image.specs.Symbols.{symbolOf, proper}
+use Rattle.image.specs.Symbols.{symbolOf}
 use Rattle.image.proofs.SymbolLaws.{left-is}
 use Rattle.image.proofs.NextLaws.{sized, next-is}
 use Rattle.image.proofs.symbols.Symbols.next_symbol.Needs as need
