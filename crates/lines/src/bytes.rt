@@ -7,7 +7,7 @@ ghost use lib.ListN.{length};
 ghost use Rattle.lines.specs.Words.{run, upper, plain, namely, isName, isVariable, every};
 
 // The bytes of a name or variable, at most.
-const NAME_LIMIT: usize = 31;
+pub const NAME_LIMIT: usize = 31;
 
 // How many bytes stand before the first `stop`.
 pub(crate) fn run_len(bytes: &[u8], stop: u8) -> usize
@@ -63,7 +63,7 @@ fn all_namely(bytes: &[u8]) -> bool
     true
 }
 
-pub(crate) fn is_name(bytes: &[u8]) -> bool
+pub fn is_name(bytes: &[u8]) -> bool
     ensures { λ r. ⌜ r ≡ isName (now (bytes .entry)) ⌝ }
 {
     let [first, rest @ ..] = bytes else {

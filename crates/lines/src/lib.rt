@@ -9,7 +9,9 @@ mod reader;
 mod refusals;
 mod tokens;
 
+pub use bytes::NAME_LIMIT;
 pub use bytes::all_plain;
+pub use bytes::is_name;
 pub use faults::CallFault;
 pub use faults::CallFaultFromLine;
 pub use faults::FieldFault;

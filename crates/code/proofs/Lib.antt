@@ -1,0 +1,12 @@
+pub mod Turns
+pub mod WordLaws
+pub mod RangeLaws
+pub mod FrameLaws
+pub mod OrderLaws
+pub mod DueLaws
+pub mod SlotLaws
+pub mod ArgumentLaws
+pub mod KeyLaws
+pub mod UseLaws
+pub mod MeaningLaws
+pub mod ReadyLaws

@@ -1,0 +1,11 @@
+pub mod Limits
+pub mod Table
+pub mod Instructions
+pub mod Mnemonics
+pub mod Words
+pub mod Tests
+pub mod Rules
+pub mod Passes
+pub mod Ready
+pub mod Meaning
+pub mod WellFormed
