@@ -1,0 +1,4 @@
+// A stack over a lent slice, for entries of any kind.
+mod stack;
+
+pub use stack::Stack;
