@@ -1,0 +1,7 @@
+pub mod SpanLaws
+pub mod HeapLaws
+pub mod SolutionLaws
+pub mod Chains
+pub mod Denotes
+pub mod StampLaws
+pub mod MarkLaws
