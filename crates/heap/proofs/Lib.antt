@@ -3,5 +3,6 @@ pub mod HeapLaws
 pub mod SolutionLaws
 pub mod Chains
 pub mod Denotes
+pub mod PushLaws
 pub mod StampLaws
 pub mod MarkLaws
