@@ -67,8 +67,8 @@ grew-trans {H} {H′} {H″} {t} {t′} {t″} p q = record {
   added = p .added ++ q .added;
   longer = q .longer ∙ ap (λ x. x ++ q .added) (p .longer) ∙ append-assoc t (p .added) (q .added);
   back = ap (take (length H)) (undone-append (p .added) (q .added) H″) ∙ take-undone (length H) (p .added) (undone (q .added) H″)
-    ∙ ap (undone (p .added)) (sym (take-take (length H) (length H′) (undone (q .added) H″) (p .more)) ∙ ap (take (length H)) (q .back))
-    ∙ sym (take-undone (length H) (p .added) H′) ∙ p .back;
+      ∙ ap (undone (p .added)) (sym (take-take (length H) (length H′) (undone (q .added) H″) (p .more)) ∙ ap (take (length H)) (q .back))
+      ∙ sym (take-undone (length H) (p .added) H′) ∙ p .back;
   more = omega (arith, p .more, q .more);
   inside = all-append _ (p .added) (q .added) (trail-wider H′ H″ (p .added) (q .more) (p .inside)) (q .inside);
 }
@@ -96,13 +96,13 @@ pub saves-grew : {H H′ : Heap} {t t′ : List Bound} {mark top : ℕ} → Save
 saves-grew {H} {H′} {t} {t′} {mark} {top} s g =
     let cut : drop mark t′ ≡ drop mark t ++ g .added = ap (drop mark) (g .longer) ∙ drop-append-le mark t (g .added) (s .marked) in
     let same : take top (undone (drop mark t′) H′) ≡ take top (undone (drop mark t) H) =
-      ap (λ x. take top (undone x H′)) cut ∙ ap (take top) (undone-append (drop mark t) (g .added) H′) ∙ take-undone top (drop mark t) (undone (g .added) H′)
-      ∙ ap (undone (drop mark t)) (sym (take-take top (length H) (undone (g .added) H′) (s .lower)) ∙ ap (take top) (g .back))
-      ∙ sym (take-undone top (drop mark t) H) in
+    ap (λ x. take top (undone x H′)) cut ∙ ap (take top) (undone-append (drop mark t) (g .added) H′) ∙ take-undone top (drop mark t) (undone (g .added) H′)
+    ∙ ap (undone (drop mark t)) (sym (take-take top (length H) (undone (g .added) H′) (s .lower)) ∙ ap (take top) (g .back))
+    ∙ sym (take-undone top (drop mark t) H) in
     record {
       marked = omega (arith, s .marked, ap length (g .longer), length-append t (g .added));
       lower = omega (arith, s .lower, g .more);
       inside = subst (InTrail H′) (sym cut)
-        (all-append _ (drop mark t) (g .added) (trail-wider H H′ (drop mark t) (g .more) (s .inside)) (g .inside));
+          (all-append _ (drop mark t) (g .added) (trail-wider H H′ (drop mark t) (g .more) (s .inside)) (g .inside));
       fine = subst (λ X. Fine X mark) (sym same) (s .fine);
     }

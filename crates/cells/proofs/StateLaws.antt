@@ -23,7 +23,7 @@ use Rattle.matching.specs.declared.trail.Bound.{Bound}
 use Rattle.matching.specs.declared.trail.Trail.{Trail}
 use Rattle.matching.proofs.TrailLaws.{undone-length}
 use Rattle.cells.specs.States.{entries, Fine, Sane}
-use Rattle.cells.specs.Growth.{placed, grown, Saves}
+use Rattle.cells.specs.Growth.{placed, grown, Spare, Saves}
 
 pub entries-length : (t : Trail) → length (entries t) ≡ t .len
 entries-length t = length-take-le (t .len) (t .items) (omega (arith, t .long, t .within))
@@ -73,7 +73,7 @@ module _ (cells : List Cell) (top : ℕ) (trail : Trail) (c : Cell) (s : Sane ce
     long = length-set cells top c ∙ s .long;
     within = omega arith;
     fine = subst (λ H. Fine H (trail .len)) (sym push-cut)
-      (fine-push (take top cells) c (trail .len) (s .fine) (λ j h. omega (arith, older j h, used-length cells top trail s)) (omega (arith, used-length cells top trail s)));
+        (fine-push (take top cells) c (trail .len) (s .fine) (λ j h. omega (arith, older j h, used-length cells top trail s)) (omega (arith, used-length cells top trail s)));
   }
 
 -- matching keeps what it needs
@@ -97,7 +97,7 @@ module _ (cells X : List Cell) (top : ℕ) (trail trail′ : Trail) (s : Sane ce
     long = omega (arith, length-append X (drop top cells), length-drop top cells, part-length, s .long, s .within);
     within = s .within;
     fine = subst (λ H. Fine H (trail′ .len)) (sym part-cut)
-      (subst (Fine X) (entries-length trail′) (fine-kept (subst (Fine (take top cells)) (sym (entries-length trail)) (s .fine)) k sound closed));
+        (subst (Fine X) (entries-length trail′) (fine-kept (subst (Fine (take top cells)) (sym (entries-length trail)) (s .fine)) k sound closed));
   }
 
   pub unite-kept : Kept (take top cells) (entries trail) (take top (X ++ drop top cells)) (entries trail′)
@@ -122,3 +122,14 @@ module _ (cells X : List Cell) (top : ℕ) (trail trail′ : Trail) (mark to : �
     within = omega (arith, saved .lower, used-length cells top trail s, s .within);
     fine = subst (Fine (take to (X ++ drop top cells))) (sym len) (subst (λ H. Fine H mark) (sym back-cells) (saved .fine));
   }
+
+-- the state of a store, for its trail's entries
+pub fine-used : (cells : List Cell) (top : ℕ) (trail : Trail) → Sane cells top trail → Fine (take top cells) (length (entries trail))
+fine-used cells top trail s = subst (Fine (take top cells)) (sym (entries-length trail)) (s .fine)
+
+-- a new cell without arguments may be one
+pub spare-none : (H : Heap) (n : ℕ) → Fine H n → Spare H 0
+spare-none H n f = omega (arith, f .arguments)
+
+pub spare-push : (H : Heap) (c : Cell) (n : ℕ) → arity c ≡ 0 → Spare H n → Spare (H ++ c ∷ []) (n + 1)
+spare-push H c n e h = omega (arith, h, total-push arity H c, length-push H c)

@@ -1,8 +1,8 @@
 -- Cells that are added, and the way back to fewer.
 use mathlib.Core.Path.{_≡_}
-use mathlib.Core.Bool.{cond}
-use mathlib.Core.List.{List, [], _∷_, _++_}
-use Prim.Native.Nat.{ℕ, _+_, _≤_}
+use mathlib.Core.Bool.{Bool, cond}
+use mathlib.Core.List.{List, [], _∷_, _++_, map}
+use Prim.Native.Nat.{ℕ, _+_, _-_, _≤_}
 use lib.Dec.{ltb}
 use lib.ListN.{length, take, drop}
 use Rattle.std.specs.declared.option.Option.{Option}
@@ -10,6 +10,7 @@ use Rattle.std.specs.declared.option.Option.the-variants.{Some, None}
 use Rattle.heap.specs.Limits.{cellLimit}
 use Rattle.heap.specs.Heaps.{Heap, total, arity}
 use Rattle.heap.specs.declared.cell.Cell.{Cell}
+use Rattle.heap.specs.declared.cell.Cell.the-variants.{Ref, Node}
 use Rattle.matching.specs.Trails.{undone, InTrail}
 use Rattle.matching.specs.declared.trail.Bound.{Bound}
 use Rattle.cells.specs.States.{Fine}
@@ -21,6 +22,13 @@ placed H = cond (ltb (length H) cellLimit) (Some (length H)) None
 -- the cells with one more, unless there are as many as may be
 abbrev pub grown : Heap → Cell → Heap
 grown H c = cond (ltb (length H) cellLimit) (H ++ c ∷ []) H
+
+-- whether there is room for a structure and references to its arguments
+abbrev pub fits : Heap → List ℕ → Bool
+fits H args = ltb (length args) (cellLimit - length H)
+
+abbrev pub structured : Heap → ℕ → List ℕ → Heap
+structured H f args = (H ++ map Ref args) ++ Node f (length args) (length H) ∷ []
 
 -- n cells are not yet the arguments of a structure
 abbrev pub Spare : Heap → ℕ → Type 0

@@ -47,7 +47,16 @@ pub(crate) fn root_of(cells: &[Cell], top: u16, trail: &Trail, i: u16) -> u16
 }
 
 // Makes the terms at `a` and `b` one, or says that they cannot be.
-pub(crate) fn unite(cells: &mut [Cell], top: u16, trail: &mut Trail, marks: &mut Marks, visits: &mut [u16], pairs: &mut [Pair], a: u16, b: u16) -> bool
+pub(crate) fn unite(
+    cells: &mut [Cell],
+    top: u16,
+    trail: &mut Trail,
+    marks: &mut Marks,
+    visits: &mut [u16],
+    pairs: &mut [Pair],
+    a: u16,
+    b: u16,
+) -> bool
     requires sane { ⌜ Sane (now cells) top (now trail) ⌝ }
     requires a_within { ⌜ a < top ⌝ }
     requires b_within { ⌜ b < top ⌝ }
@@ -57,7 +66,15 @@ pub(crate) fn unite(cells: &mut [Cell], top: u16, trail: &mut Trail, marks: &mut
     ensures kept { λ _. ⌜ Kept (take top (now (cells .entry))) (entries (now (trail .entry))) (take top (now (cells .exit))) (entries (now (trail .exit))) ⌝ }
     ensures result { λ r. ⌜ When r (Unified (take top (now (cells .entry))) (take top (now (cells .exit))) a b) (Apart (take top (now (cells .entry))) a b) ⌝ }
 {
-    unify(&mut cells[..top as usize], trail, marks, visits, pairs, a, b)
+    unify(
+        &mut cells[..top as usize],
+        trail,
+        marks,
+        visits,
+        pairs,
+        a,
+        b,
+    )
 }
 
 // Takes back the bindings since the trail was `mark` long, and gives up the cells from `to` on.

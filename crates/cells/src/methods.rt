@@ -1,15 +1,18 @@
 // What a store does.
 ghost use mathlib.Core.Path.{_≡_};
 ghost use mathlib.Core.List.{[]};
-ghost use Prim.Native.Nat.{_+_, _<_, _≤_};
-ghost use lib.ListN.{length, take, drop};
+ghost use mathlib.Core.Bool.{cond};
+ghost use Prim.Native.Nat.{ℕ, _+_, _<_, _≤_};
+ghost use lib.ListN.{length, getD, take, drop};
 ghost use Rattle.std.specs.Orderings.{When};
+ghost use Rattle.std.specs.declared.option.Option.the-variants.{Some, None};
+ghost use Rattle.heap.specs.Limits.{cellLimit};
 ghost use Rattle.heap.specs.Heaps.{cell};
 ghost use Rattle.heap.specs.Solutions.{Root, Apart};
 ghost use Rattle.heap.specs.declared.cell.Cell.the-variants.{Unbound, Ref, Node};
 ghost use Rattle.matching.specs.Trails.{undone, Kept};
 ghost use Rattle.matching.specs.Unifies.{Unified};
-ghost use Rattle.cells.specs.Growth.{placed, grown, Spare, Saves};
+ghost use Rattle.cells.specs.Growth.{placed, grown, fits, structured, Spare, Saves};
 ghost use Rattle.cells.specs.Stores.{cellsOf, boundOf};
 use crate::areas::go_back;
 use crate::areas::push_cell;
@@ -40,14 +43,16 @@ impl Store {
 
     // How many cells are in use.
     pub fn top(&self) -> u16
-        ensures { λ r. ⌜ r ≡ length (cellsOf (now (self .entry))) ⌝ }
+        ensures value { λ r. ⌜ r ≡ length (cellsOf (now (self .entry))) ⌝ }
+        ensures within { λ r. ⌜ r ≤ cellLimit ⌝ }
     {
         self.top
     }
 
-    // How many bindings the trail has.
+    // How many bindings the trail has. With `top` it says what to come back to.
     pub fn mark(&self) -> usize
-        ensures { λ r. ⌜ r ≡ length (boundOf (now (self .entry))) ⌝ }
+        ensures value { λ r. ⌜ r ≡ length (boundOf (now (self .entry))) ⌝ }
+        ensures saves { λ r. ⌜ Saves (cellsOf (now (self .entry))) (boundOf (now (self .entry))) r (length (cellsOf (now (self .entry)))) ⌝ }
     {
         self.trail.len()
     }
@@ -95,7 +100,33 @@ impl Store {
         ensures cells { λ _. ⌜ cellsOf (now (self .exit)) ≡ grown (cellsOf (now (self .entry))) (Node symbol arity first) ⌝ }
         ensures trail { λ _. ⌜ boundOf (now (self .exit)) ≡ boundOf (now (self .entry)) ⌝ }
     {
-        push_cell(&mut self.cells, &mut self.top, &self.trail, Cell::Node { symbol, arity, first })
+        push_cell(
+            &mut self.cells,
+            &mut self.top,
+            &self.trail,
+            Cell::Node {
+                symbol,
+                arity,
+                first,
+            },
+        )
+    }
+
+    // A new structure with references to `args` for its arguments; where they do not all fit, nothing changes.
+    pub fn push_structure(&mut self, symbol: u16, args: &[u16]) -> Option<u16>
+        requires { ⌜ ((k : ℕ) → k < length (now args) → getD (now args) k 0 < length (cellsOf (now self))) ⌝ }
+        ensures value { λ r. ⌜ r ≡ cond (fits (cellsOf (now (self .entry))) (now (args .entry))) (Some (length (cellsOf (now (self .entry))) + length (now (args .entry)))) None ⌝ }
+        ensures cells { λ _. ⌜ cellsOf (now (self .exit)) ≡ cond (fits (cellsOf (now (self .entry))) (now (args .entry))) (structured (cellsOf (now (self .entry))) symbol (now (args .entry))) (cellsOf (now (self .entry))) ⌝ }
+        ensures trail { λ _. ⌜ boundOf (now (self .exit)) ≡ boundOf (now (self .entry)) ⌝ }
+    {
+        let first = self.top();
+        if args.len() >= CELL_LIMIT - first as usize {
+            return None;
+        }
+        for x in args {
+            self.push_ref(*x);
+        }
+        self.push_node(symbol, args.len() as u16, first)
     }
 
     // Makes the terms at `a` and `b` one, or says that they cannot be.
@@ -105,7 +136,16 @@ impl Store {
         ensures kept { λ _. ⌜ Kept (cellsOf (now (self .entry))) (boundOf (now (self .entry))) (cellsOf (now (self .exit))) (boundOf (now (self .exit))) ⌝ }
         ensures result { λ r. ⌜ When r (Unified (cellsOf (now (self .entry))) (cellsOf (now (self .exit))) a b) (Apart (cellsOf (now (self .entry))) a b) ⌝ }
     {
-        unite(&mut self.cells, self.top, &mut self.trail, &mut self.marks, &mut self.visits, &mut self.pairs, a, b)
+        unite(
+            &mut self.cells,
+            self.top,
+            &mut self.trail,
+            &mut self.marks,
+            &mut self.visits,
+            &mut self.pairs,
+            a,
+            b,
+        )
     }
 
     // Takes back the bindings since the trail was `mark` long, and gives up the cells from `top` on.

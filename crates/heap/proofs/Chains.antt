@@ -62,7 +62,7 @@ short (suc n) H i a few = go (cell H i) refl (λ k e. short n (set H i Unbound) 
         let away : Reach H k i → ⊥ = no-round H a k (edge-ref H i k e) in
         short-away n H i k away
         (f k e (ends-away H i Unbound (Acc·inv a (edge-ref H i k e)) away)
-          (omega (arith, total-set refs H i Unbound (bound-within H i k e), ap refs e)))
+        (omega (arith, total-set refs H i Unbound (bound-within H i k e), ap refs e)))
     go (Node g m b) e f = tt
 
 walk-settled : (n : ℕ) (H : Heap) (i : ℕ) → Short n H i → walk (suc n) H i ≡ walk n H i
@@ -75,7 +75,7 @@ walk-settled zero H i s = go (cell H i) s
 walk-settled (suc n) H i s = go (cell H i) s (walk-settled n H)
   where
     go : (c : Cell) → After c (λ k. Short n H k) → ((k : ℕ) → Short n H k → walk (suc n) H k ≡ walk n H k)
-      → past c (λ k. walk (suc n) H k) ≡ past c (λ k. walk n H k)
+        → past c (λ k. walk (suc n) H k) ≡ past c (λ k. walk n H k)
     go Unbound a f = refl
     go (Ref k) a f = ap suc (f k a)
     go (Node g m b) a f = refl

@@ -31,28 +31,30 @@ module _ (H : Heap) (i : ℕ) (c : Cell) where
   pub ends-away : {k : ℕ} → Ends H k → (Reach H k i → ⊥) → Ends (set H i c) k
   ends-away (Acc·intro k h) away =
       Acc·intro k λ l e.
-        let e′ : Edge H l k = subst (λ x. Names x l) (cell-other H i k c (λ q. away (subst (λ x. Reach H k x) q here))) e in
-        ends-away (h l e′) (λ r. away (step e′ r))
+      let e′ : Edge H l k = subst (λ x. Names x l) (cell-other H i k c (λ q. away (subst (λ x. Reach H k x) q here))) e in
+      ends-away (h l e′) (λ r. away (step e′ r))
 
   -- once i ends in the new heap, all does
   pub ends-over : {k : ℕ} → Ends H k → Ends (set H i c) i → Ends (set H i c) k
   ends-over (Acc·intro k h) new =
       elim (ℕ-discrete k i) [
-        yes q ↦ subst (λ x. Ends (set H i c) x) (sym q) new
-      | no ne ↦ Acc·intro k (λ l e. ends-over (h l (subst (λ x. Names x l) (cell-other H i k c ne) e)) new) ]
+        | yes q ↦ subst (λ x. Ends (set H i c) x) (sym q) new
+        | no ne ↦ Acc·intro k (λ l e. ends-over (h l (subst (λ x. Names x l) (cell-other H i k c ne) e)) new)
+      ]
 
 pub sound-ref : (H : Heap) (i j : ℕ) → i < length H → Sound H → (Reach H j i → ⊥) → Sound (set H i (Ref j))
 sound-ref H i j lt s away k =
     ends-over H i (Ref j) (s k)
     (Acc·intro i λ l e.
-      let q : l ≡ j = subst (λ x. Names x l) (cell-same H i (Ref j) lt) e in
-      subst (λ x. Ends (set H i (Ref j)) x) (sym q) (ends-away H i (Ref j) (s j) away))
+    let q : l ≡ j = subst (λ x. Names x l) (cell-same H i (Ref j) lt) e in
+    subst (λ x. Ends (set H i (Ref j)) x) (sym q) (ends-away H i (Ref j) (s j) away))
 
 pub closed-ref : (H : Heap) (i j : ℕ) → i < length H → j < length H → Closed H → Closed (set H i (Ref j))
 closed-ref H i j li lj cl k l e =
     rw length-set (elim (ℕ-discrete k i) [
-      yes q ↦ (let e′ : l ≡ j = subst (λ x. Names x l) (cell-same H i (Ref j) li) (subst (λ x. Edge (set H i (Ref j)) l x) q e) in omega arith)
-    | no ne ↦ cl k l (subst (λ x. Names x l) (cell-other H i k (Ref j) ne) e) ])
+      | yes q ↦ (let e′ : l ≡ j = subst (λ x. Names x l) (cell-same H i (Ref j) li) (subst (λ x. Edge (set H i (Ref j)) l x) q e) in omega arith)
+      | no ne ↦ cl k l (subst (λ x. Names x l) (cell-other H i k (Ref j) ne) e)
+    ])
 
 -- a write changes a sum by what the two cells give
 pub total-set : (w : Cell → ℕ) (H : Heap) (i : ℕ) (c : Cell) → i < length H → total w (set H i c) + w (cell H i) ≡ total w H + w c

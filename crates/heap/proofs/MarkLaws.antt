@@ -36,14 +36,16 @@ seen-same s k h = getD-set-same s k true false h
 pub seen-more : (s : List Bool) (k i : ℕ) → k < length s → Seen s i → Seen (set s k true) i
 seen-more s k i h q =
     elim (ℕ-discrete i k) [
-      yes e ↦ subst (λ x. Seen (set s k true) x) (sym e) (seen-same s k h)
-    | no ne ↦ getD-set-other s k i true false ne ∙ q ]
+      | yes e ↦ subst (λ x. Seen (set s k true) x) (sym e) (seen-same s k h)
+      | no ne ↦ getD-set-other s k i true false ne ∙ q
+    ]
 
 pub seen-less : (s : List Bool) (k i : ℕ) → Seen (set s k true) i → Seen s i ⊎ (i ≡ k)
 seen-less s k i q =
     elim (ℕ-discrete i k) [
-      yes e ↦ inr e
-    | no ne ↦ inl (sym (getD-set-other s k i true false ne) ∙ q) ]
+      | yes e ↦ inr e
+      | no ne ↦ inl (sym (getD-set-other s k i true false ne) ∙ q)
+    ]
 
 pub visited-none : (s : List Bool) (t : List ℕ) (lo : ℕ) → Visited s s t t lo lo
 visited-none s t lo = record {
@@ -96,15 +98,15 @@ search-more H start goal s s′ t t′ at lo hi was other b v = record {
   long = omega (arith, v .long, was .long);
   begun = v .more start (was .begun);
   met = λ i h. ⊎-elim (λ a. was .met i (on-left i t (at ∷ []) a))
-    (λ r. (reach-trans (was .met at (on-last at t) .0) (step (b .back i (r .0) (r .1)) here), omega (arith, b .within (omega arith)))) (v .whence i h);
+      (λ r. (reach-trans (was .met at (on-last at t) .0) (step (b .back i (r .0) (r .1)) here), omega (arith, b .within (omega arith)))) (v .whence i h);
   done = λ i h. ⊎-elim
-    (λ a. ⊎-elim
+      (λ a. ⊎-elim
       (λ on. ⊎-elim (λ on′. inl (v .kept i on′))
-        (λ e. inr (λ q. other (sym e ∙ q), λ j d. let r = b .into j (subst (λ x. Edge H j x) e d) in v .all j (r .0) (r .1)))
-        (on-push i t at on))
+      (λ e. inr (λ q. other (sym e ∙ q), λ j d. let r = b .into j (subst (λ x. Edge H j x) e d) in v .all j (r .0) (r .1)))
+      (on-push i t at on))
       (λ ok. inr (ok .0, λ j d. v .more j (ok .1 j d)))
       (was .done i a))
-    (λ on. inl on) (v .new i h);
+      (λ on. inl on) (v .new i h);
 }
 
 -- once nothing waits

@@ -38,10 +38,12 @@ module _ (H : Heap) (c : Cell) (closed : Closed H) (names : (j : ℕ) → Names 
   edges-in : (k j : ℕ) → Edge (H ++ c ∷ []) j k → j < length H
   edges-in k j e =
       elim (decLt k (length H)) [
-        yes lt ↦ closed k j (subst (λ x. Names x j) (old-cell k lt) e)
-      | no ge ↦ elim (ℕ-discrete k (length H)) [
-          yes q ↦ names j (subst (λ x. Names x j) new-cell (subst (λ x. Edge (H ++ c ∷ []) j x) q e))
-        | no ne ↦ absurd (subst (λ x. Names x j) (past-cell k (omega arith)) e) ] ]
+        | yes lt ↦ closed k j (subst (λ x. Names x j) (old-cell k lt) e)
+        | no ge ↦ elim (ℕ-discrete k (length H)) [
+          | yes q ↦ names j (subst (λ x. Names x j) new-cell (subst (λ x. Edge (H ++ c ∷ []) j x) q e))
+          | no ne ↦ absurd (subst (λ x. Names x j) (past-cell k (omega arith)) e)
+        ]
+      ]
 
   pub closed-push : Closed (H ++ c ∷ [])
   closed-push k j e = omega (arith, edges-in k j e, length-push H c)
@@ -63,25 +65,30 @@ module _ (names : Naming) where
   pub sol-agree : (H : Heap) (ρ τ : Valuation) → Closed H → ((k : ℕ) → k < length H → ρ k ≡ τ k) → Sol names H ρ → Sol names H τ
   sol-agree H ρ τ closed same s i =
       elim (decLt i (length H)) [
-        yes lt ↦ says-agree (cell H i) i ρ τ (same i lt) (λ j e. same j (closed i j e)) (s i)
-      | no ge ↦ subst (λ c. Says names c i τ) (sym (getD-past H i Unbound (omega arith))) tt ]
+        | yes lt ↦ says-agree (cell H i) i ρ τ (same i lt) (λ j e. same j (closed i j e)) (s i)
+        | no ge ↦ subst (λ c. Says names c i τ) (sym (getD-past H i Unbound (omega arith))) tt
+      ]
 
   -- one more cell: what it says is said besides
   module _ (H : Heap) (c : Cell) (ρ : Valuation) where
     pub sol-push : Sol names H ρ → Says names c (length H) ρ → Sol names (H ++ c ∷ []) ρ
     sol-push s n k =
         elim (decLt k (length H)) [
-          yes lt ↦ subst (λ x. Says names x k ρ) (sym (getD-append-left H (c ∷ []) Unbound k lt)) (s k)
-        | no ge ↦ elim (ℕ-discrete k (length H)) [
-            yes q ↦ subst (λ x. Says names (cell (H ++ c ∷ []) x) x ρ) (sym q) (subst (λ x. Says names x (length H) ρ) (sym (getD-push H c Unbound (length H) refl)) n)
-          | no ne ↦ subst (λ x. Says names x k ρ) (sym (getD-past (H ++ c ∷ []) k Unbound (omega (arith, length-push H c)))) tt ] ]
+          | yes lt ↦ subst (λ x. Says names x k ρ) (sym (getD-append-left H (c ∷ []) Unbound k lt)) (s k)
+          | no ge ↦ elim (ℕ-discrete k (length H)) [
+            | yes q ↦ subst (λ x. Says names (cell (H ++ c ∷ []) x) x ρ) (sym q) (subst (λ x. Says names x (length H) ρ) (sym (getD-push H c Unbound (length H) refl)) n)
+            | no ne ↦ subst (λ x. Says names x k ρ) (sym (getD-past (H ++ c ∷ []) k Unbound (omega (arith, length-push H c)))) tt
+          ]
+        ]
 
     pub sol-pop : Sol names (H ++ c ∷ []) ρ → Sol names H ρ × Says names c (length H) ρ
-    sol-pop s =
-        (λ k. elim (decLt k (length H)) [
-            yes lt ↦ subst (λ x. Says names x k ρ) (getD-append-left H (c ∷ []) Unbound k lt) (s k)
-          | no ge ↦ subst (λ x. Says names x k ρ) (sym (getD-past H k Unbound (omega arith))) tt ],
-          subst (λ x. Says names x (length H) ρ) (getD-push H c Unbound (length H) refl) (s (length H)))
+    sol-pop s = (
+      λ k. elim (decLt k (length H)) [
+        | yes lt ↦ subst (λ x. Says names x k ρ) (getD-append-left H (c ∷ []) Unbound k lt) (s k)
+        | no ge ↦ subst (λ x. Says names x k ρ) (sym (getD-past H k Unbound (omega arith))) tt
+      ],
+      subst (λ x. Says names x (length H) ρ) (getD-push H c Unbound (length H) refl) (s (length H)),
+    )
 
 -- a valuation changed from n on
 abbrev pub from : Valuation → ℕ → Valuation → Valuation

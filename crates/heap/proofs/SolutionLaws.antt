@@ -17,9 +17,10 @@ use Rattle.heap.proofs.HeapLaws.{cell-other, cell-same, reach-free}
 pub tells-ref : (names : Naming) (H : Heap) (i j : ℕ) → i < length H → Tells names H → Tells names (set H i (Ref j))
 tells-ref names H i j lt t k l f g n p q at-k at-l =
     let old : (m s b : ℕ) → cell (set H i (Ref j)) m ≡ Node s n b → cell H m ≡ Node s n b = λ m s b e.
-      elim (ℕ-discrete m i) [
-        yes x ↦ (let r : cell (set H i (Ref j)) m ≡ Ref j = ap (cell (set H i (Ref j))) x ∙ cell-same H i (Ref j) lt in let z : _≡_ {A = ℕ} 0 1 = cc in absurd (omega arith))
-      | no ne ↦ sym (cell-other H i m (Ref j) ne) ∙ e ] in
+    elim (ℕ-discrete m i) [
+      | yes x ↦ (let r : cell (set H i (Ref j)) m ≡ Ref j = ap (cell (set H i (Ref j))) x ∙ cell-same H i (Ref j) lt in let z : _≡_ {A = ℕ} 0 1 = cc in absurd (omega arith))
+      | no ne ↦ sym (cell-other H i m (Ref j) ne) ∙ e
+    ] in
     t k l f g n p q (old k f p at-k) (old l g q at-l)
 
 module _ (names : Naming) where
@@ -39,14 +40,16 @@ module _ (names : Naming) where
   pub sol-set : (H : Heap) (i : ℕ) (c : Cell) (ρ : Valuation) → i < length H → Sol names H ρ → Says names c i ρ → Sol names (set H i c) ρ
   sol-set H i c ρ lt s new k =
       elim (ℕ-discrete k i) [
-        yes q ↦ subst (λ x. Says names (cell (set H i c) x) x ρ) (sym q) (subst (λ x. Says names x i ρ) (sym (cell-same H i c lt)) new)
-      | no ne ↦ subst (λ x. Says names x k ρ) (sym (cell-other H i k c ne)) (s k) ]
+        | yes q ↦ subst (λ x. Says names (cell (set H i c) x) x ρ) (sym q) (subst (λ x. Says names x i ρ) (sym (cell-same H i c lt)) new)
+        | no ne ↦ subst (λ x. Says names x k ρ) (sym (cell-other H i k c ne)) (s k)
+      ]
 
   pub sol-unset : (H : Heap) (i : ℕ) (c : Cell) (ρ : Valuation) → i < length H → Sol names (set H i c) ρ → Says names (cell H i) i ρ → Sol names H ρ
   sol-unset H i c ρ lt s old k =
       elim (ℕ-discrete k i) [
-        yes q ↦ subst (λ x. Says names (cell H x) x ρ) (sym q) old
-      | no ne ↦ subst (λ x. Says names x k ρ) (cell-other H i k c ne) (s k) ]
+        | yes q ↦ subst (λ x. Says names (cell H x) x ρ) (sym q) old
+        | no ne ↦ subst (λ x. Says names x k ρ) (cell-other H i k c ne) (s k)
+      ]
 
   pub sol-set-says : (H : Heap) (i : ℕ) (c : Cell) (ρ : Valuation) → i < length H → Sol names (set H i c) ρ → Says names c i ρ
   sol-set-says H i c ρ lt s = subst (λ x. Says names x i ρ) (cell-same H i c lt) (s i)
@@ -100,9 +103,12 @@ module _ (names : Naming) where
 pub occurs-apart : (H : Heap) (i j f n q : ℕ) → cell H j ≡ Node f n q → i ≢ j → Reach H j i → Apart H i j
 occurs-apart H i j f n q at-j ne here names ρ t s e = absurd (ne refl)
 occurs-apart H i j f n q at-j ne (step {j = b} d p) names ρ t s e =
-    omega (arith,
+    omega (
+      arith,
       node-size names f n q j b ρ (subst (λ x. Says names x j ρ) at-j (s j)) (subst (λ x. Names x b) at-j d),
-      reach-size names ρ s p, ap size e)
+      reach-size names ρ s p,
+      ap size e,
+    )
 
 pub occurs : (H : Heap) (i j : ℕ) → Rooted (cell H j) → i ≢ j → Reach H j i → Apart H i j
 occurs H i j root ne r = go (cell H j) refl root

@@ -24,8 +24,9 @@ pub span-size : (ρ : Valuation) (i n k : ℕ) → i ≤ k → k < i + n → siz
 span-size ρ i zero k lo hi = absurd (omega arith)
 span-size ρ i (suc n) k lo hi =
     elim (ℕ-discrete i k) [
-      yes e ↦ omega (arith, ap (λ x. size (ρ x)) e)
-    | no ne ↦ omega (arith, span-size ρ (suc i) n k (omega arith) (omega arith)) ]
+      | yes e ↦ omega (arith, ap (λ x. size (ρ x)) e)
+      | no ne ↦ omega (arith, span-size ρ (suc i) n k (omega arith) (omega arith))
+    ]
 
 -- two rows that agree: the same number of places, and each place
 pub span-len : (ρ τ : Valuation) (i j n m : ℕ) → span ρ i n ≡ span τ j m → n ≡ m

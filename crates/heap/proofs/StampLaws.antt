@@ -29,8 +29,9 @@ marked-put stamps last i = map-set (λ s. eqb s last) stamps i last ∙ ap (set 
 pub stamps-put : (stamps : List ℕ) (last i : ℕ) → i < length stamps → ((k : ℕ) → getD stamps k 0 ≤ last) → (k : ℕ) → getD (set stamps i last) k 0 ≤ last
 stamps-put stamps last i h old k =
     elim (ℕ-discrete k i) [
-      yes e ↦ omega (arith, ap (λ x. getD (set stamps i last) x 0) e, getD-set-same stamps i last 0 h)
-    | no ne ↦ omega (arith, getD-set-other stamps i k last 0 ne, old k) ]
+      | yes e ↦ omega (arith, ap (λ x. getD (set stamps i last) x 0) e, getD-set-same stamps i last 0 h)
+      | no ne ↦ omega (arith, getD-set-other stamps i k last 0 ne, old k)
+    ]
 
 pub blank-stamps : (n i : ℕ) → _≡_ {A = ℕ} (getD (replicate n 0) i 0) 0
 blank-stamps zero i = refl

@@ -17,7 +17,10 @@ pub struct Marks {
 
 impl Marks {
     pub fn new() -> Marks {
-        Marks { stamps: [0; CELL_LIMIT], last: 0 }
+        Marks {
+            stamps: [0; CELL_LIMIT],
+            last: 0,
+        }
     }
 
     // Takes all marks away. The stamps are cleared only where they have run out.

@@ -21,7 +21,11 @@ fn below(cells: &[Cell], at: u16) -> (u16, u16)
     match cells[at as usize] {
         Cell::Unbound => (at, at),
         Cell::Ref(next) => (next, next + 1),
-        Cell::Node { symbol: _, arity, first } => (first, first + arity),
+        Cell::Node {
+            symbol: _,
+            arity,
+            first,
+        } => (first, first + arity),
     }
 }
 

@@ -52,14 +52,14 @@ module _ (H : Heap) (sound : Sound H) (closed : Closed H) (i j : ℕ) (li : i < 
     closed = closed-ref H i j li lj closed;
     tells = λ names. tells-ref names H i j li;
     inside = λ h. all-append _ ps (rows p q n) (inside-set H i (Ref j) ps h)
-      (rows-inside (set H i (Ref j)) p q n
+        (rows-inside (set H i (Ref j)) p q n
         (λ pos. omega (arith, length-set H i (Ref j), node-within H closed i f n p at-i pos)) (λ pos. omega (arith, length-set H i (Ref j), node-within H closed j f n q at-j pos)));
     into = λ names ρ s a.
-      let r = merge-into names H i j f n p q li ne at-i at-j ρ s (agree-rows ρ p q n (all-right _ ps (rows p q n) a)) in
-      (r .0, all-left _ ps (rows p q n) a, r .1);
+        let r = merge-into names H i j f n p q li ne at-i at-j ρ s (agree-rows ρ p q n (all-right _ ps (rows p q n) a)) in
+        (r .0, all-left _ ps (rows p q n) a, r .1);
     back = λ names ρ s a e.
-      let r = merge-back names H i j f n p q li ne at-i at-j ρ s e in
-      (r .0, all-append _ ps (rows p q n) a (rows-agree ρ p q n (r .1)));
+        let r = merge-back names H i j f n p q li ne at-i at-j ρ s e in
+        (r .0, all-append _ ps (rows p q n) a (rows-agree ρ p q n (r .1)));
     falls = omega (arith, total-set arity H i (Ref j) li, ap arity at-i, length-append ps (rows p q n), rows-length p q n);
   }
 

@@ -21,12 +21,23 @@ pub fn bind(cells: &mut [Cell], trail: &mut Trail, i: u16, j: u16)
     ensures after { λ _. ⌜ now (cells .exit) ≡ set (now (cells .entry)) i (Ref j) ⌝ }
     ensures kept { λ _. ⌜ Kept (now (cells .entry)) (take (now (trail .entry) .len) (now (trail .entry) .items)) (now (cells .exit)) (take (now (trail .exit) .len) (now (trail .exit) .items)) ⌝ }
 {
-    trail.push(Bound { at: i, was: cells[i as usize] });
+    trail.push(Bound {
+        at: i,
+        was: cells[i as usize],
+    });
     cells[i as usize] = Cell::Ref(j);
 }
 
 // Makes `i` a reference to `j`, which has `n` arguments, unless `i` can be reached from `j`.
-pub(crate) fn attach(cells: &mut [Cell], trail: &mut Trail, marks: &mut Marks, visits: &mut [u16], i: u16, j: u16, n: u16) -> bool
+pub(crate) fn attach(
+    cells: &mut [Cell],
+    trail: &mut Trail,
+    marks: &mut Marks,
+    visits: &mut [u16],
+    i: u16,
+    j: u16,
+    n: u16,
+) -> bool
     requires closed { ⌜ Closed (now cells) ⌝ }
     requires small { ⌜ length (now cells) ≤ cellLimit ⌝ }
     requires i_within { ⌜ i < length (now cells) ⌝ }

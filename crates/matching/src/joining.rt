@@ -19,7 +19,15 @@ use stack::Stack;
 // Takes the demand that the roots `i` and `j` agree into the heap, and into more pairs.
 // Two constants, and an unbound cell at a constant or at an unbound cell, want no search.
 // Of two structures the first becomes a reference to the second, so that they meet no second time.
-pub(crate) fn join<'a>(cells: &mut [Cell], trail: &mut Trail, marks: &mut Marks, visits: &mut [u16], pairs: &mut Stack<'a, Pair>, i: u16, j: u16) -> bool
+pub(crate) fn join<'a>(
+    cells: &mut [Cell],
+    trail: &mut Trail,
+    marks: &mut Marks,
+    visits: &mut [u16],
+    pairs: &mut Stack<'a, Pair>,
+    i: u16,
+    j: u16,
+) -> bool
     requires sound { ⌜ Sound (now cells) ⌝ }
     requires closed { ⌜ Closed (now cells) ⌝ }
     requires small { ⌜ length (now cells) ≤ cellLimit ⌝ }
@@ -36,8 +44,16 @@ pub(crate) fn join<'a>(cells: &mut [Cell], trail: &mut Trail, marks: &mut Marks,
     ensures result { λ r. ⌜ When r (Joined (now (cells .entry)) (take (now (pairs .entry) .len) (now (now (pairs .entry) .items))) i j (now (cells .exit)) (take (now (pairs .exit) .len) (now (now (pairs .exit) .items)))) ((now (cells .exit) ≡ now (cells .entry)) × Apart (now (cells .entry)) i j) ⌝ }
 {
     match cells[i as usize] {
-        Cell::Node { symbol: f, arity: n, first: p } => match cells[j as usize] {
-            Cell::Node { symbol: g, arity: m, first: q } => {
+        Cell::Node {
+            symbol: f,
+            arity: n,
+            first: p,
+        } => match cells[j as usize] {
+            Cell::Node {
+                symbol: g,
+                arity: m,
+                first: q,
+            } => {
                 if f != g || n != m {
                     return false;
                 }
@@ -53,7 +69,11 @@ pub(crate) fn join<'a>(cells: &mut [Cell], trail: &mut Trail, marks: &mut Marks,
             _ => attach(cells, trail, marks, visits, j, i, n),
         },
         _ => match cells[j as usize] {
-            Cell::Node { symbol: _, arity: m, first: _ } => attach(cells, trail, marks, visits, i, j, m),
+            Cell::Node {
+                symbol: _,
+                arity: m,
+                first: _,
+            } => attach(cells, trail, marks, visits, i, j, m),
             _ => {
                 if i < j {
                     return attach(cells, trail, marks, visits, j, i, 0);

@@ -22,6 +22,9 @@ pub(crate) fn push_rows<'a>(pairs: &mut Stack<'a, Pair>, i: u16, j: u16, n: u16)
     ensures after { λ _. ⌜ take (now (pairs .exit) .len) (now (now (pairs .exit) .items)) ≡ take (now (pairs .entry) .len) (now (now (pairs .entry) .items)) ++ rows i j n ⌝ }
 {
     for k in 0..n {
-        pairs.push(Pair { left: i + k, right: j + k });
+        pairs.push(Pair {
+            left: i + k,
+            right: j + k,
+        });
     }
 }

@@ -27,7 +27,13 @@ impl Trail {
     pub fn new() -> Trail
         ensures { λ r. ⌜ r .len ≡ 0 ⌝ }
     {
-        Trail { items: [Bound { at: 0, was: Cell::Unbound }; CELL_LIMIT], len: 0 }
+        Trail {
+            items: [Bound {
+                at: 0,
+                was: Cell::Unbound,
+            }; CELL_LIMIT],
+            len: 0,
+        }
     }
 
     pub fn len(&self) -> usize

@@ -16,7 +16,15 @@ use heap::root;
 use stack::Stack;
 
 // Makes the terms at `a` and `b` one, or says that they cannot be.
-pub fn unify(cells: &mut [Cell], trail: &mut Trail, marks: &mut Marks, visits: &mut [u16], pairs: &mut [Pair], a: u16, b: u16) -> bool
+pub fn unify(
+    cells: &mut [Cell],
+    trail: &mut Trail,
+    marks: &mut Marks,
+    visits: &mut [u16],
+    pairs: &mut [Pair],
+    a: u16,
+    b: u16,
+) -> bool
     requires sound { ⌜ Sound (now cells) ⌝ }
     requires closed { ⌜ Closed (now cells) ⌝ }
     requires small { ⌜ length (now cells) ≤ cellLimit ⌝ }

@@ -13,10 +13,11 @@ pub loop-at-holds : need.loop-at-holds
 loop-at-holds c =
     let new = c .over-stack .result in
     let stack = c .visit .last .stack in
-    let none : length (take (new .len) (new .items .now)) ≡ 0 = length-take-le (new .len) (new .items .now) (new .ok) ∙ c .over-stack .ensures .empty in
-    ( search-begin 4224 (c .clear .ensures) none (c .pre .within) (c .pre .small) (c .visit .ensures .after),
+    let none : length (take (new .len) (new .items .now)) ≡ 0 = length-take-le (new .len) (new .items .now) (new .ok) ∙ c .over-stack .ensures .empty in (
+      search-begin 4224 (c .clear .ensures) none (c .pre .within) (c .pre .small) (c .visit .ensures .after),
       omega (arith, c .visit .ensures .room, c .over-stack .ensures .room, c .pre .room),
-      omega (arith, c .visit .ensures .after .spent, ap (sumBy blank) (c .clear .ensures), blanks-all 4224, none, length-take-le (stack .len) (stack .items .now) (stack .ok)))
+      omega (arith, c .visit .ensures .after .spent, ap (sumBy blank) (c .clear .ensures), blanks-all 4224, none, length-take-le (stack .len) (stack .items .now) (stack .ok)),
+    )
 
 pub returns-then-at-goal : need.returns-then-at-goal
 returns-then-at-goal c =
@@ -33,10 +34,11 @@ loop-at-again c =
     let v = c .visit-in-Some .ensures .after in
     let taken = c .in-Some .ensures tt .cases .1 in
     let stack = c .loop-at .stack in
-    let next = c .visit-in-Some .last .stack in
-    ( search-turn taken refl v refl (c .loop-at .inv .0) (c .if-at-goal .left) (c .below-lo .ensures),
+    let next = c .visit-in-Some .last .stack in (
+      search-turn taken refl v refl (c .loop-at .inv .0) (c .if-at-goal .left) (c .below-lo .ensures),
       omega (arith, c .visit-in-Some .ensures .room, ap length (c .in-Some .ensures tt .same), c .loop-at .inv .1),
-      omega (arith, search-falls (c .in-Some .at) taken refl v refl, c .loop-at .inv .2, length-take-le (stack .len) (stack .items .now) (stack .ok), length-take-le (next .len) (next .items .now) (next .ok)))
+      omega (arith, search-falls (c .in-Some .at) taken refl v refl, c .loop-at .inv .2, length-take-le (stack .len) (stack .items .now) (stack .ok), length-take-le (next .len) (next .items .now) (next .ok)),
+    )
 
 pub returns : need.returns
 returns c =

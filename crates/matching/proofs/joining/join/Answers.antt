@@ -21,7 +21,7 @@ returns-then-n-eq0 c = record {
   kept = kept-none _ _;
   room = refl;
   result = constants (c .args .cells .now) _ (c .args .i) (c .args .j) _ _ _ _ _ _ (c .pre .sound) (c .pre .closed) (c .pre .i-within) (c .pre .j-within)
-    (c .in-Node .is) (c .in-Node-cells .is) (c .if-f-g .left) (c .if-n-m .left) (c .if-n-eq0 .taken);
+      (c .in-Node .is) (c .in-Node-cells .is) (c .if-f-g .left) (c .if-n-m .left) (c .if-n-eq0 .taken);
 }
 
 pub returns-then-not-attach : need.returns-then-not-attach
@@ -45,7 +45,7 @@ returns-else-not-attach c = record {
   kept = c .attach .ensures .kept;
   room = c .push-rows .ensures .room;
   result = attached-nodes (c .args .cells .now) _ _ (c .args .i) (c .args .j) _ _ _ _ _ _ _ (c .pre .sound) (c .pre .closed) (c .pre .i-within) (c .pre .j-within) (c .pre .other)
-    (c .in-Node .is) (c .in-Node-cells .is) (c .if-f-g .left) (c .if-n-m .left) (rw (c .if-not-attach .left) at (c .attach .ensures .result)) (c .push-rows .ensures .after);
+      (c .in-Node .is) (c .in-Node-cells .is) (c .if-f-g .left) (c .if-n-m .left) (rw (c .if-not-attach .left) at (c .attach .ensures .result)) (c .push-rows .ensures .after);
 }
 
 pub returns-in-rest-cells : need.returns-in-rest-cells
@@ -55,7 +55,7 @@ returns-in-rest-cells c =
       kept = c .attach-in-rest-cells .ensures .kept;
       room = refl;
       result = attached-free-swapped (c .args .cells .now) _ (c .args .i) (c .args .j) (c .attach-in-rest-cells .last .cells) (c .attach-in-rest-cells .result)
-        (c .pre .sound) (c .pre .closed) (c .pre .i-within) (c .pre .j-within) free (c .pre .i-root) (c .pre .other) (c .attach-in-rest-cells .ensures .result);
+          (c .pre .sound) (c .pre .closed) (c .pre .i-within) (c .pre .j-within) free (c .pre .i-root) (c .pre .other) (c .attach-in-rest-cells .ensures .result);
     }
 
 pub returns-in-Node-cells-2 : need.returns-in-Node-cells-2
@@ -65,7 +65,7 @@ returns-in-Node-cells-2 c =
       kept = c .attach-in-Node-cells-2 .ensures .kept;
       room = refl;
       result = attached-free (c .args .cells .now) _ (c .args .i) (c .args .j) (c .attach-in-Node-cells-2 .last .cells) (c .attach-in-Node-cells-2 .result)
-        (c .pre .sound) (c .pre .closed) (c .pre .i-within) (c .pre .j-within) free (c .pre .j-root) (c .pre .other) (c .attach-in-Node-cells-2 .ensures .result);
+          (c .pre .sound) (c .pre .closed) (c .pre .i-within) (c .pre .j-within) free (c .pre .j-root) (c .pre .other) (c .attach-in-Node-cells-2 .ensures .result);
     }
 
 pub returns-then-i-j : need.returns-then-i-j
@@ -75,7 +75,7 @@ returns-then-i-j c =
       kept = c .attach-then-i-j .ensures .kept;
       room = refl;
       result = attached-free-swapped (c .args .cells .now) _ (c .args .i) (c .args .j) (c .attach-then-i-j .last .cells) (c .attach-then-i-j .result)
-        (c .pre .sound) (c .pre .closed) (c .pre .i-within) (c .pre .j-within) free (c .pre .i-root) (c .pre .other) (c .attach-then-i-j .ensures .result);
+          (c .pre .sound) (c .pre .closed) (c .pre .i-within) (c .pre .j-within) free (c .pre .i-root) (c .pre .other) (c .attach-then-i-j .ensures .result);
     }
 
 pub returns-else-i-j : need.returns-else-i-j
@@ -85,5 +85,5 @@ returns-else-i-j c =
       kept = c .attach-in-rest-cells-2 .ensures .kept;
       room = refl;
       result = attached-free (c .args .cells .now) _ (c .args .i) (c .args .j) (c .attach-in-rest-cells-2 .last .cells) (c .attach-in-rest-cells-2 .result)
-        (c .pre .sound) (c .pre .closed) (c .pre .i-within) (c .pre .j-within) free (c .pre .j-root) (c .pre .other) (c .attach-in-rest-cells-2 .ensures .result);
+          (c .pre .sound) (c .pre .closed) (c .pre .i-within) (c .pre .j-within) free (c .pre .j-root) (c .pre .other) (c .attach-in-rest-cells-2 .ensures .result);
     }

@@ -16,11 +16,12 @@ loop-pair-holds c =
     let new = c .over-stack .result in
     let none : take (new .len) (new .items .now) ≡ [] = nil-from-length _ (length-take-le (new .len) (new .items .now) (new .ok) ∙ c .over-stack .ensures .empty) in
     let room : new .len < length (new .items .now) = omega (arith, c .over-stack .ensures .empty, c .over-stack .ensures .room, c .pre .pairs-room) in
-    let p = pushed _ _ (c .push .result) (new .len) (length (new .items .now)) (c .push .ensures .value) room (c .push .ensures .cases) in
-    ( unifying-none (c .args .cells .now) (c .args .a) (c .args .b) _ (c .pre .sound) (c .pre .closed) (c .pre .a-within) (c .pre .b-within)
-        (p .1 ∙ ap (λ x. x ++ pair (c .args .a) (c .args .b) ∷ []) none),
+    let p = pushed _ _ (c .push .result) (new .len) (length (new .items .now)) (c .push .ensures .value) room (c .push .ensures .cases) in (
+      unifying-none (c .args .cells .now) (c .args .a) (c .args .b) _ (c .pre .sound) (c .pre .closed) (c .pre .a-within) (c .pre .b-within)
+          (p .1 ∙ ap (λ x. x ++ pair (c .args .a) (c .args .b) ∷ []) none),
       kept-none _ _,
-      refl)
+      refl,
+    )
 
 pub root-i-requires : need.root-i-requires
 root-i-requires c κs =
@@ -48,11 +49,24 @@ join-requires c κs =
       i-root = c .root-i .ensures .rooted;
       j-root = c .root-j .ensures .rooted;
       other = c .if-i-j .taken;
-      room = omega (arith, k .bound, c .pre .room, length-take-le (trail .len) (trail .items) (omega (arith, trail .long, trail .within)),
-        length-take-le (first .len) (first .items) (omega (arith, first .long, first .within)));
+      room = omega (
+        arith,
+        k .bound,
+        c .pre .room,
+        length-take-le (trail .len) (trail .items) (omega (arith, trail .long, trail .within)),
+        length-take-le (first .len) (first .items) (omega (arith, first .long, first .within)),
+      );
       visits-room = omega (arith, c .loop-pair .kept .visits, c .pre .visits-room);
-      pairs-room = omega (arith, fewer-pairs _ (c .in-Some .pair) (c .root-i .result) (c .root-j .result) (c .in-Some .ensures tt .cases .1) u (c .root-i .ensures) (c .root-j .ensures),
-        length-take-le (rest .len) (rest .items .now) (rest .ok), ap length (c .in-Some .ensures tt .same), c .loop-pair .inv .2, c .push .ensures .room, c .over-stack .ensures .room, c .pre .pairs-room);
+      pairs-room = omega (
+        arith,
+        fewer-pairs _ (c .in-Some .pair) (c .root-i .result) (c .root-j .result) (c .in-Some .ensures tt .cases .1) u (c .root-i .ensures) (c .root-j .ensures),
+        length-take-le (rest .len) (rest .items .now) (rest .ok),
+        ap length (c .in-Some .ensures tt .same),
+        c .loop-pair .inv .2,
+        c .push .ensures .room,
+        c .over-stack .ensures .room,
+        c .pre .pairs-room,
+      );
     }
 
 pub returns-then-not-join : need.returns-then-not-join
@@ -76,16 +90,18 @@ loop-pair-less-else-not-join c =
 pub loop-pair-again-else-not-join : need.loop-pair-again-else-not-join
 loop-pair-again-else-not-join c =
     let u = c .loop-pair .inv .0 in
-    let joined = rw (c .if-not-join .left) at (c .join .ensures .result) in
-    ( turn-joined _ (c .in-Some .pair) (c .root-i .result) (c .root-j .result) (c .in-Some .ensures tt .cases .1) u (c .root-i .ensures) (c .root-j .ensures) joined,
+    let joined = rw (c .if-not-join .left) at (c .join .ensures .result) in (
+      turn-joined _ (c .in-Some .pair) (c .root-i .result) (c .root-j .result) (c .in-Some .ensures tt .cases .1) u (c .root-i .ensures) (c .root-j .ensures) joined,
       kept-trans (c .loop-pair .inv .1) (c .join .ensures .kept),
-      c .join .ensures .room ∙ ap length (c .in-Some .ensures tt .same) ∙ c .loop-pair .inv .2)
+      c .join .ensures .room ∙ ap length (c .in-Some .ensures tt .same) ∙ c .loop-pair .inv .2,
+    )
 
 pub loop-pair-again : need.loop-pair-again
-loop-pair-again c =
-    ( turn-same _ (c .in-Some .pair) (c .root-i .result) (c .root-j .result) (c .in-Some .ensures tt .cases .1) (c .loop-pair .inv .0) (c .root-i .ensures) (c .root-j .ensures) (c .if-i-j .left),
-      c .loop-pair .inv .1,
-      ap length (c .in-Some .ensures tt .same) ∙ c .loop-pair .inv .2)
+loop-pair-again c = (
+  turn-same _ (c .in-Some .pair) (c .root-i .result) (c .root-j .result) (c .in-Some .ensures tt .cases .1) (c .loop-pair .inv .0) (c .root-i .ensures) (c .root-j .ensures) (c .if-i-j .left),
+  c .loop-pair .inv .1,
+  ap length (c .in-Some .ensures tt .same) ∙ c .loop-pair .inv .2,
+)
 
 pub returns : need.returns
 returns c =

@@ -6,4 +6,5 @@ use Rattle.cells.proofs.store.Store.top.Needs as need
 pub returns : need.returns
 returns c =
     let s = c .args .self .now in
-    sym (used-length (s .cells) (s .top) (s .trail) (unsealed (s .cells) (s .top) (s .trail) (s .sane)))
+    let sane = unsealed (s .cells) (s .top) (s .trail) (s .sane) in
+    record { value = sym (used-length (s .cells) (s .top) (s .trail) sane); within = sane .within }
