@@ -17,12 +17,12 @@ use Rattle.heap.specs.Solutions.{Apart}
 use Rattle.heap.specs.declared.cell.Cell.{Cell}
 use Rattle.heap.specs.declared.cell.Cell.the-variants.{Unbound, Ref, Node}
 use Rattle.heap.proofs.PushLaws.{sound-none, closed-none, sound-push, closed-push, total-push}
-use Rattle.matching.specs.Trails.{undone, Kept}
+use Rattle.matching.specs.Trails.{entries, undone, Kept}
 use Rattle.matching.specs.Unifies.{Unified}
 use Rattle.matching.specs.declared.trail.Bound.{Bound}
 use Rattle.matching.specs.declared.trail.Trail.{Trail}
 use Rattle.matching.proofs.TrailLaws.{undone-length}
-use Rattle.cells.specs.States.{entries, Fine, Sane}
+use Rattle.cells.specs.States.{Fine, Sane}
 use Rattle.cells.specs.Growth.{placed, grown, Spare, Saves}
 
 pub entries-length : (t : Trail) → length (entries t) ≡ t .len

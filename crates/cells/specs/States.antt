@@ -6,12 +6,7 @@ use lib.ListN.{length, take}
 use Rattle.heap.specs.Limits.{cellLimit}
 use Rattle.heap.specs.Heaps.{Heap, Sound, Closed, total, arity, plain}
 use Rattle.heap.specs.declared.cell.Cell.{Cell}
-use Rattle.matching.specs.declared.trail.Bound.{Bound}
 use Rattle.matching.specs.declared.trail.Trail.{Trail}
-
--- the bindings to take back
-abbrev pub entries : Trail → List Bound
-entries t = take (t .len) (t .items)
 
 -- cells that matching may work on, when the trail has n entries:
 -- no cell leads back to itself, arguments are cells of their own, and a reference is never bound again

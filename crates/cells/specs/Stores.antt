@@ -3,7 +3,7 @@ use mathlib.Core.List.{List}
 use lib.ListN.{take}
 use Rattle.heap.specs.Heaps.{Heap}
 use Rattle.matching.specs.declared.trail.Bound.{Bound}
-use Rattle.cells.specs.States.{entries}
+use Rattle.matching.specs.Trails.{entries}
 use Rattle.cells.specs.declared.store.Store.{Store}
 
 -- the cells in use

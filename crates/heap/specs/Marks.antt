@@ -7,11 +7,15 @@ use Prim.Native.Nat.{ℕ, _+_, _<_, _≤_}
 use lib.Dec.{eqb}
 use lib.ListN.{length, getD}
 use Rattle.std.specs.shelf.Lists.{sumBy}
+use Rattle.heap.specs.declared.marks.Marks.{Marks}
 use Rattle.heap.specs.Heaps.{Heap, Edge, Reach}
 
 -- the marks: a cell is marked when it has the last stamp
 abbrev pub marked : List ℕ → ℕ → List Bool
 marked stamps last = map (λ s. eqb s last) stamps
+
+abbrev pub marksOf : Marks → List Bool
+marksOf m = marked (m .stamps) (m .last)
 
 abbrev pub On : ℕ → List ℕ → Type 0
 On i [] = ⊥

@@ -3,6 +3,7 @@ mod cell;
 mod follow;
 mod marks;
 mod search;
+mod stamping;
 mod theorems;
 
 pub use cell::CELL_LIMIT;

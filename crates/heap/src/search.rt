@@ -1,12 +1,13 @@
 // Whether one cell is reached from another: a search that marks each cell that it meets.
 ghost use mathlib.Core.Path.{_≡_};
 ghost use Prim.Native.Nat.{_+_, _<_, _≤_};
-ghost use lib.ListN.{length, take};
+ghost use lib.ListN.{length};
 ghost use Rattle.std.specs.Orderings.{Decides};
 ghost use Rattle.std.specs.shelf.Lists.{sumBy};
+ghost use Rattle.stack.specs.Stacked.{stacked};
 ghost use Rattle.heap.specs.Limits.{cellLimit};
 ghost use Rattle.heap.specs.Heaps.{Closed, Below, Reach};
-ghost use Rattle.heap.specs.Marks.{marked, blank, Visited};
+ghost use Rattle.heap.specs.Marks.{marksOf, blank, Visited};
 use crate::cell::Cell;
 use crate::marks::Marks;
 use stack::Stack;
@@ -33,9 +34,9 @@ fn below(cells: &[Cell], at: u16) -> (u16, u16)
 fn visit<'a>(marks: &mut Marks, stack: &mut Stack<'a, u16>, lo: u16, hi: u16)
     requires order { ⌜ lo ≤ hi ⌝ }
     requires within { ⌜ (lo < hi → hi ≤ cellLimit) ⌝ }
-    requires room { ⌜ sumBy blank (marked (now marks .stamps) (now marks .last)) + now stack .len ≤ length (now (now stack .items)) ⌝ }
+    requires room { ⌜ sumBy blank (marksOf (now marks)) + now stack .len ≤ length (now (now stack .items)) ⌝ }
     ensures room { λ _. ⌜ length (now (now (stack .exit) .items)) ≡ length (now (now (stack .entry) .items)) ⌝ }
-    ensures after { λ _. ⌜ Visited (marked (now (marks .entry) .stamps) (now (marks .entry) .last)) (marked (now (marks .exit) .stamps) (now (marks .exit) .last)) (take (now (stack .entry) .len) (now (now (stack .entry) .items))) (take (now (stack .exit) .len) (now (now (stack .exit) .items))) lo hi ⌝ }
+    ensures after { λ _. ⌜ Visited (marksOf (now (marks .entry))) (marksOf (now (marks .exit))) (stacked (now (stack .entry))) (stacked (now (stack .exit))) lo hi ⌝ }
 {
     for k in lo..hi {
         if !marks.has(k) {

@@ -6,6 +6,11 @@ use lib.ListN.{length, set, take, drop}
 use Rattle.std.specs.shelf.Lists.{All}
 use Rattle.heap.specs.Heaps.{Heap, total, plain, arity}
 use Rattle.matching.specs.declared.trail.Bound.{Bound}
+use Rattle.matching.specs.declared.trail.Trail.{Trail}
+
+-- the bindings of a trail
+abbrev pub entries : Trail → List Bound
+entries t = take (t .len) (t .items)
 
 -- the heap once the bindings of the trail are taken back, the last first
 abbrev pub undone : List Bound → Heap → Heap

@@ -1,12 +1,12 @@
 // Binding a cell to another.
 ghost use mathlib.Core.Path.{_≡_};
 ghost use Prim.Native.Nat.{_+_, _<_, _≤_};
-ghost use lib.ListN.{length, set, take};
+ghost use lib.ListN.{length, set};
 ghost use Rattle.std.specs.Orderings.{When};
 ghost use Rattle.heap.specs.Limits.{cellLimit};
 ghost use Rattle.heap.specs.Heaps.{Closed, Reach, Rooted, cell, total, plain, arity};
 ghost use Rattle.heap.specs.declared.cell.Cell.the-variants.{Ref};
-ghost use Rattle.matching.specs.Trails.{Kept};
+ghost use Rattle.matching.specs.Trails.{entries, Kept};
 use crate::trail::Bound;
 use crate::trail::Trail;
 use heap::Cell;
@@ -19,7 +19,7 @@ pub fn bind(cells: &mut [Cell], trail: &mut Trail, i: u16, j: u16)
     requires root { ⌜ Rooted (cell (now cells) i) ⌝ }
     requires room { ⌜ now trail .len + total plain (now cells) ≤ cellLimit ⌝ }
     ensures after { λ _. ⌜ now (cells .exit) ≡ set (now (cells .entry)) i (Ref j) ⌝ }
-    ensures kept { λ _. ⌜ Kept (now (cells .entry)) (take (now (trail .entry) .len) (now (trail .entry) .items)) (now (cells .exit)) (take (now (trail .exit) .len) (now (trail .exit) .items)) ⌝ }
+    ensures kept { λ _. ⌜ Kept (now (cells .entry)) (entries (now (trail .entry))) (now (cells .exit)) (entries (now (trail .exit))) ⌝ }
 {
     trail.push(Bound {
         at: i,
@@ -48,7 +48,7 @@ pub(crate) fn attach(
     requires arguments { ⌜ arity (cell (now cells) j) ≡ n ⌝ }
     requires room { ⌜ now trail .len + total plain (now cells) ≤ cellLimit ⌝ }
     requires visits_room { ⌜ cellLimit ≤ length (now visits) ⌝ }
-    ensures kept { λ _. ⌜ Kept (now (cells .entry)) (take (now (trail .entry) .len) (now (trail .entry) .items)) (now (cells .exit)) (take (now (trail .exit) .len) (now (trail .exit) .items)) ⌝ }
+    ensures kept { λ _. ⌜ Kept (now (cells .entry)) (entries (now (trail .entry))) (now (cells .exit)) (entries (now (trail .exit))) ⌝ }
     ensures result { λ r. ⌜ When r ((now (cells .exit) ≡ set (now (cells .entry)) i (Ref j)) × (Reach (now (cells .entry)) j i → ⊥)) ((now (cells .exit) ≡ now (cells .entry)) × Reach (now (cells .entry)) j i) ⌝ }
 {
     if n == 0 {

@@ -1,12 +1,13 @@
 // One turn of matching, at two roots.
 ghost use mathlib.Core.Path.{_≡_};
 ghost use Prim.Native.Nat.{_+_, _<_, _≤_};
-ghost use lib.ListN.{length, take};
+ghost use lib.ListN.{length};
 ghost use Rattle.std.specs.Orderings.{When};
+ghost use Rattle.stack.specs.Stacked.{stacked};
 ghost use Rattle.heap.specs.Limits.{cellLimit};
 ghost use Rattle.heap.specs.Heaps.{Sound, Closed, Rooted, cell, total, plain, arity};
 ghost use Rattle.heap.specs.Solutions.{Apart};
-ghost use Rattle.matching.specs.Trails.{Kept};
+ghost use Rattle.matching.specs.Trails.{entries, Kept};
 ghost use Rattle.matching.specs.Unifies.{Joined};
 use crate::binding::attach;
 use crate::pairs::Pair;
@@ -39,9 +40,9 @@ pub(crate) fn join<'a>(
     requires room { ⌜ now trail .len + total plain (now cells) ≤ cellLimit ⌝ }
     requires visits_room { ⌜ cellLimit ≤ length (now visits) ⌝ }
     requires pairs_room { ⌜ total arity (now cells) + now pairs .len ≤ length (now (now pairs .items)) ⌝ }
-    ensures kept { λ _. ⌜ Kept (now (cells .entry)) (take (now (trail .entry) .len) (now (trail .entry) .items)) (now (cells .exit)) (take (now (trail .exit) .len) (now (trail .exit) .items)) ⌝ }
+    ensures kept { λ _. ⌜ Kept (now (cells .entry)) (entries (now (trail .entry))) (now (cells .exit)) (entries (now (trail .exit))) ⌝ }
     ensures room { λ _. ⌜ length (now (now (pairs .exit) .items)) ≡ length (now (now (pairs .entry) .items)) ⌝ }
-    ensures result { λ r. ⌜ When r (Joined (now (cells .entry)) (take (now (pairs .entry) .len) (now (now (pairs .entry) .items))) i j (now (cells .exit)) (take (now (pairs .exit) .len) (now (now (pairs .exit) .items)))) ((now (cells .exit) ≡ now (cells .entry)) × Apart (now (cells .entry)) i j) ⌝ }
+    ensures result { λ r. ⌜ When r (Joined (now (cells .entry)) (stacked (now (pairs .entry))) i j (now (cells .exit)) (stacked (now (pairs .exit)))) ((now (cells .exit) ≡ now (cells .entry)) × Apart (now (cells .entry)) i j) ⌝ }
 {
     match cells[i as usize] {
         Cell::Node {

@@ -1,6 +1,7 @@
 // Matching of terms in cells, with the trail that takes it back.
 mod binding;
 mod joining;
+mod noting;
 mod pairs;
 mod trail;
 mod undoing;

@@ -2,7 +2,8 @@
 ghost use mathlib.Core.Path.{_≡_};
 ghost use mathlib.Core.List.{_++_};
 ghost use Prim.Native.Nat.{_+_, _≤_};
-ghost use lib.ListN.{length, take};
+ghost use lib.ListN.{length};
+ghost use Rattle.stack.specs.Stacked.{stacked};
 ghost use Rattle.heap.specs.Limits.{cellLimit};
 ghost use Rattle.matching.specs.Unifies.{rows};
 use stack::Stack;
@@ -19,7 +20,7 @@ pub(crate) fn push_rows<'a>(pairs: &mut Stack<'a, Pair>, i: u16, j: u16, n: u16)
     requires j_fits { ⌜ j + n ≤ cellLimit ⌝ }
     requires room { ⌜ now pairs .len + n ≤ length (now (now pairs .items)) ⌝ }
     ensures room { λ _. ⌜ length (now (now (pairs .exit) .items)) ≡ length (now (now (pairs .entry) .items)) ⌝ }
-    ensures after { λ _. ⌜ take (now (pairs .exit) .len) (now (now (pairs .exit) .items)) ≡ take (now (pairs .entry) .len) (now (now (pairs .entry) .items)) ++ rows i j n ⌝ }
+    ensures after { λ _. ⌜ stacked (now (pairs .exit)) ≡ stacked (now (pairs .entry)) ++ rows i j n ⌝ }
 {
     for k in 0..n {
         pairs.push(Pair {

@@ -1,11 +1,11 @@
 // Matching.
 ghost use Prim.Native.Nat.{_+_, _<_, _≤_};
-ghost use lib.ListN.{length, take};
+ghost use lib.ListN.{length};
 ghost use Rattle.std.specs.Orderings.{When};
 ghost use Rattle.heap.specs.Limits.{cellLimit};
 ghost use Rattle.heap.specs.Heaps.{Sound, Closed, total, plain, arity};
 ghost use Rattle.heap.specs.Solutions.{Apart};
-ghost use Rattle.matching.specs.Trails.{Kept};
+ghost use Rattle.matching.specs.Trails.{entries, Kept};
 ghost use Rattle.matching.specs.Unifies.{Unified};
 use crate::joining::join;
 use crate::pairs::Pair;
@@ -35,7 +35,7 @@ pub fn unify(
     requires pairs_room { ⌜ total arity (now cells) < length (now pairs) ⌝ }
     ensures sound { λ _. ⌜ Sound (now (cells .exit)) ⌝ }
     ensures closed { λ _. ⌜ Closed (now (cells .exit)) ⌝ }
-    ensures kept { λ _. ⌜ Kept (now (cells .entry)) (take (now (trail .entry) .len) (now (trail .entry) .items)) (now (cells .exit)) (take (now (trail .exit) .len) (now (trail .exit) .items)) ⌝ }
+    ensures kept { λ _. ⌜ Kept (now (cells .entry)) (entries (now (trail .entry))) (now (cells .exit)) (entries (now (trail .exit))) ⌝ }
     ensures result { λ r. ⌜ When r (Unified (now (cells .entry)) (now (cells .exit)) a b) (Apart (now (cells .entry)) a b) ⌝ }
 {
     let mut stack = Stack::over(pairs);

@@ -1,6 +1,6 @@
 use mathlib.Core.Path.{_≡_, sym, _∙_, subst}
 use lib.ListN.{length, take}
-use Rattle.cells.specs.States.{entries}
+use Rattle.matching.specs.Trails.{entries}
 use Rattle.cells.specs.Growth.{Saves}
 use Rattle.cells.proofs.Seals.{unsealed}
 use Rattle.cells.proofs.StateLaws.{entries-length, fine-used}
