@@ -1,7 +1,7 @@
 -- Laws of the way back.
-use mathlib.Core.Path.{_≡_, refl, sym, _∙_, ap, subst}
+use mathlib.Core.Path.{_≡_, refl, sym, _∙_, ap, subst, subst₂}
 use mathlib.Core.Bool.{Bool, true, false, cond}
-use mathlib.Core.List.{List, [], _∷_, _++_, append-assoc, append-nil}
+use mathlib.Core.List.{List, [], _∷_, _++_, map, append-assoc, append-nil}
 use Prim.Native.Nat.{ℕ, _+_, suc, zero, _<_, _≤_}
 use native.Mathlib.Omega.{arith}
 use lib.Dec.{ltb}
@@ -12,11 +12,12 @@ use Rattle.std.proofs.shelf.Elements.{all-append}
 use Rattle.heap.specs.Limits.{cellLimit}
 use Rattle.heap.specs.Heaps.{Heap}
 use Rattle.heap.specs.declared.cell.Cell.{Cell}
+use Rattle.heap.specs.declared.cell.Cell.the-variants.{Ref, Node}
 use Rattle.matching.specs.Trails.{undone, InTrail, Kept}
 use Rattle.matching.specs.declared.trail.Bound.{Bound}
 use Rattle.matching.proofs.TrailLaws.{undone-append}
 use Rattle.cells.specs.States.{Fine}
-use Rattle.cells.specs.Growth.{grown, Grew, Saves}
+use Rattle.cells.specs.Growth.{grown, fits, structured, Grew, Saves}
 
 take-set : {X : Type 0} (n : ℕ) (xs : List X) (i : ℕ) (v : X) → take n (set xs i v) ≡ set (take n xs) i v
 take-set zero [] i v = refl
@@ -51,6 +52,26 @@ grew-grown H t c = go (ltb (length H) cellLimit)
   where
     go : (b : Bool) → Grew H t (cond b (H ++ c ∷ []) H) t
     go true = grew-push H t c
+    go false = grew-none H t
+
+-- as the pushes say it
+pub grew-by : {H H′ : Heap} {t t′ : List Bound} (c : Cell) → H′ ≡ grown H c → t′ ≡ t → Grew H t H′ t′
+grew-by {H} {H′} {t} {t′} c e f = subst₂ (Grew H t) (sym e) (sym f) (grew-grown H t c)
+
+grew-append : (H : Heap) (t : List Bound) (G : Heap) → Grew H t (H ++ G) t
+grew-append H t G = record {
+  added = [];
+  longer = sym (append-nil t);
+  back = take-at H G (length H) refl;
+  more = omega (arith, length-append H G);
+  inside = tt;
+}
+
+pub grew-structured : {H H′ : Heap} {t t′ : List Bound} (f : ℕ) (args : List ℕ) → H′ ≡ cond (fits H args) (structured H f args) H → t′ ≡ t → Grew H t H′ t′
+grew-structured {H} {H′} {t} {t′} f args e q = subst₂ (Grew H t) (sym e) (sym q) (go (fits H args))
+  where
+    go : (b : Bool) → Grew H t (cond b (structured H f args) H) t
+    go true = subst (λ X. Grew H t X t) (sym (append-assoc H (map Ref args) (Node f (length args) (length H) ∷ []))) (grew-append H t (map Ref args ++ Node f (length args) (length H) ∷ []))
     go false = grew-none H t
 
 pub grew-kept : {H H′ : Heap} {t t′ : List Bound} → Kept H t H′ t′ → Grew H t H′ t′

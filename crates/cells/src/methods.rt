@@ -12,7 +12,7 @@ ghost use Rattle.heap.specs.Solutions.{Root, Apart};
 ghost use Rattle.heap.specs.declared.cell.Cell.the-variants.{Unbound, Ref, Node};
 ghost use Rattle.matching.specs.Trails.{undone, Kept};
 ghost use Rattle.matching.specs.Unifies.{Unified};
-ghost use Rattle.cells.specs.Growth.{placed, grown, fits, structured, Spare, Saves};
+ghost use Rattle.cells.specs.Growth.{placed, grown, fits, structured, Spare, Grew, Saves};
 ghost use Rattle.cells.specs.Stores.{cellsOf, boundOf};
 use crate::areas::go_back;
 use crate::areas::push_cell;
@@ -78,6 +78,7 @@ impl Store {
         ensures value { λ r. ⌜ r ≡ placed (cellsOf (now (self .entry))) ⌝ }
         ensures cells { λ _. ⌜ cellsOf (now (self .exit)) ≡ grown (cellsOf (now (self .entry))) Unbound ⌝ }
         ensures trail { λ _. ⌜ boundOf (now (self .exit)) ≡ boundOf (now (self .entry)) ⌝ }
+        ensures grew { λ _. ⌜ Grew (cellsOf (now (self .entry))) (boundOf (now (self .entry))) (cellsOf (now (self .exit))) (boundOf (now (self .exit))) ⌝ }
     {
         push_cell(&mut self.cells, &mut self.top, &self.trail, Cell::Unbound)
     }
@@ -88,6 +89,7 @@ impl Store {
         ensures value { λ r. ⌜ r ≡ placed (cellsOf (now (self .entry))) ⌝ }
         ensures cells { λ _. ⌜ cellsOf (now (self .exit)) ≡ grown (cellsOf (now (self .entry))) (Ref i) ⌝ }
         ensures trail { λ _. ⌜ boundOf (now (self .exit)) ≡ boundOf (now (self .entry)) ⌝ }
+        ensures grew { λ _. ⌜ Grew (cellsOf (now (self .entry))) (boundOf (now (self .entry))) (cellsOf (now (self .exit))) (boundOf (now (self .exit))) ⌝ }
     {
         push_cell(&mut self.cells, &mut self.top, &self.trail, Cell::Ref(i))
     }
@@ -99,6 +101,7 @@ impl Store {
         ensures value { λ r. ⌜ r ≡ placed (cellsOf (now (self .entry))) ⌝ }
         ensures cells { λ _. ⌜ cellsOf (now (self .exit)) ≡ grown (cellsOf (now (self .entry))) (Node symbol arity first) ⌝ }
         ensures trail { λ _. ⌜ boundOf (now (self .exit)) ≡ boundOf (now (self .entry)) ⌝ }
+        ensures grew { λ _. ⌜ Grew (cellsOf (now (self .entry))) (boundOf (now (self .entry))) (cellsOf (now (self .exit))) (boundOf (now (self .exit))) ⌝ }
     {
         push_cell(
             &mut self.cells,
@@ -118,6 +121,7 @@ impl Store {
         ensures value { λ r. ⌜ r ≡ cond (fits (cellsOf (now (self .entry))) (now (args .entry))) (Some (length (cellsOf (now (self .entry))) + length (now (args .entry)))) None ⌝ }
         ensures cells { λ _. ⌜ cellsOf (now (self .exit)) ≡ cond (fits (cellsOf (now (self .entry))) (now (args .entry))) (structured (cellsOf (now (self .entry))) symbol (now (args .entry))) (cellsOf (now (self .entry))) ⌝ }
         ensures trail { λ _. ⌜ boundOf (now (self .exit)) ≡ boundOf (now (self .entry)) ⌝ }
+        ensures grew { λ _. ⌜ Grew (cellsOf (now (self .entry))) (boundOf (now (self .entry))) (cellsOf (now (self .exit))) (boundOf (now (self .exit))) ⌝ }
     {
         let first = self.top();
         if args.len() >= CELL_LIMIT - first as usize {
@@ -134,6 +138,7 @@ impl Store {
         requires a_within { ⌜ a < length (cellsOf (now self)) ⌝ }
         requires b_within { ⌜ b < length (cellsOf (now self)) ⌝ }
         ensures kept { λ _. ⌜ Kept (cellsOf (now (self .entry))) (boundOf (now (self .entry))) (cellsOf (now (self .exit))) (boundOf (now (self .exit))) ⌝ }
+        ensures grew { λ _. ⌜ Grew (cellsOf (now (self .entry))) (boundOf (now (self .entry))) (cellsOf (now (self .exit))) (boundOf (now (self .exit))) ⌝ }
         ensures result { λ r. ⌜ When r (Unified (cellsOf (now (self .entry))) (cellsOf (now (self .exit))) a b) (Apart (cellsOf (now (self .entry))) a b) ⌝ }
     {
         unite(

@@ -1,5 +1,8 @@
 use native.Mathlib.Omega.{arith}
+use mathlib.Core.Path.{refl}
+use Rattle.heap.specs.declared.cell.Cell.the-variants.{Ref}
 use Rattle.cells.proofs.Seals.{unsealed}
+use Rattle.cells.proofs.GrowthLaws.{grew-by}
 use Rattle.cells.proofs.StateLaws.{used-length}
 use Rattle.cells.proofs.store.Store.push_ref.Needs as need
 
@@ -12,3 +15,11 @@ push-cell-requires c κs =
 
 pub ghost-self : need.ghost-self
 ghost-self c = (∣ c .push-cell .ensures .sane ∣₁, tt)
+
+pub returns : need.returns
+returns c = record {
+  value = c .push-cell .ensures .value;
+  cells = c .push-cell .ensures .after;
+  trail = refl;
+  grew = grew-by (Ref (c .args .i)) (c .push-cell .ensures .after) refl;
+}

@@ -1,6 +1,7 @@
 use borrow.Author.Needs.{needs}
 use native.Mathlib.Omega.{arith}
 use Rattle.cells.proofs.Seals.{unsealed}
+use Rattle.cells.proofs.GrowthLaws.{grew-kept}
 use Rattle.cells.proofs.StateLaws.{used-length}
 use Rattle.cells.proofs.store.Store.unify.Needs as need
 
@@ -19,3 +20,6 @@ unite-requires c κs =
 
 pub ghost-self : need.ghost-self
 ghost-self c = (∣ c .unite .ensures .sane ∣₁, tt)
+
+pub returns : need.returns
+returns c = record { kept = c .unite .ensures .kept; grew = grew-kept (c .unite .ensures .kept); result = c .unite .ensures .result }
