@@ -3,6 +3,8 @@ ghost use mathlib.Core.Path.{_≡_};
 ghost use mathlib.Core.Bool.{true};
 ghost use Prim.Native.Nat.{ℕ, _<_};
 ghost use lib.ListN.{length, getD};
+ghost use Rattle.cells.specs.Growth.{Grew};
+ghost use Rattle.cells.specs.Stores.{cellsOf, boundOf};
 use crate::parts::PART_LIMIT;
 use crate::parts::Part;
 use crate::parts::first_like;
@@ -21,7 +23,9 @@ fn all_below(args: &[u16], top: u16) -> bool
 }
 
 // The cell of a variable: `known` has 1 more than it, or 0.
-fn variable(store: &mut Store, known: &mut [u16; PART_LIMIT], v: u8) -> Option<u16> {
+fn variable(store: &mut Store, known: &mut [u16; PART_LIMIT], v: u8) -> Option<u16>
+    ensures { λ _. ⌜ Grew (cellsOf (now (store .entry))) (boundOf (now (store .entry))) (cellsOf (now (store .exit))) (boundOf (now (store .exit))) ⌝ }
+{
     let was = known[v as usize];
     if was > 0 {
         return Some(was - 1);
@@ -32,7 +36,9 @@ fn variable(store: &mut Store, known: &mut [u16; PART_LIMIT], v: u8) -> Option<u
 }
 
 // The cell of a structure or constant.
-fn structure(store: &mut Store, symbol: u16, args: &[u16]) -> Option<u16> {
+fn structure(store: &mut Store, symbol: u16, args: &[u16]) -> Option<u16>
+    ensures { λ _. ⌜ Grew (cellsOf (now (store .entry))) (boundOf (now (store .entry))) (cellsOf (now (store .exit))) (boundOf (now (store .exit))) ⌝ }
+{
     let top = store.top();
     if !all_below(args, top) {
         return None;
@@ -40,8 +46,26 @@ fn structure(store: &mut Store, symbol: u16, args: &[u16]) -> Option<u16> {
     store.push_structure(symbol, args)
 }
 
+// The cell of a part that is like the part `first`.
+fn place(
+    store: &mut Store,
+    known: &mut [u16; PART_LIMIT],
+    part: Part,
+    first: u8,
+    args: &[u16],
+) -> Option<u16>
+    ensures { λ _. ⌜ Grew (cellsOf (now (store .entry))) (boundOf (now (store .entry))) (cellsOf (now (store .exit))) (boundOf (now (store .exit))) ⌝ }
+{
+    if part.variable {
+        return variable(store, known, first);
+    }
+    structure(store, u16::from(first), args)
+}
+
 // The cell of the first term of the line.
-pub fn build(store: &mut Store, line: &[u8], parts: &[Part]) -> Option<u16> {
+pub fn build(store: &mut Store, line: &[u8], parts: &[Part]) -> Option<u16>
+    ensures { λ _. ⌜ Grew (cellsOf (now (store .entry))) (boundOf (now (store .entry))) (cellsOf (now (store .exit))) (boundOf (now (store .exit))) ⌝ }
+{
     let mut known = [0; PART_LIMIT];
     let mut stack = [0u16; PART_LIMIT];
     let mut at: usize = PART_LIMIT;
@@ -53,11 +77,7 @@ pub fn build(store: &mut Store, line: &[u8], parts: &[Part]) -> Option<u16> {
             return None;
         }
         let end = at + n;
-        let cell = if part.variable {
-            variable(store, &mut known, first as u8)?
-        } else {
-            structure(store, first as u16, &stack[at..end])?
-        };
+        let cell = place(store, &mut known, part, first as u8, &stack[at..end])?;
         if end == 0 {
             return None;
         }

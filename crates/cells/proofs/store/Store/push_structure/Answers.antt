@@ -44,11 +44,11 @@ returns c =
     let all : length (c .args .args .now) ≤ c .loop-x .x-index = omega arith in
     let room : length (c .args .args .now) < 4224 - length (cellsOf (c .args .self .now)) = omega (arith, c .if-args-first .left, c .top-first .ensures .value) in
     let made = structure-cells (cellsOf (c .args .self .now)) (cellsOf (c .loop-x .self)) (c .args .args .now) (c .loop-x .x-index) (c .loop-x .inv .0) part all room
-      (cellsOf (c .push-node .last .self)) (c .args .symbol) (c .top-first .result) (c .top-first .ensures .value) (c .push-node .ensures .cells) in
+    (cellsOf (c .push-node .last .self)) (c .args .symbol) (c .top-first .result) (c .top-first .ensures .value) (c .push-node .ensures .cells) in
     let same = c .push-node .ensures .trail ∙ c .loop-x .inv .1 in
     record {
       value = structure-value (cellsOf (c .args .self .now)) (cellsOf (c .loop-x .self)) (c .args .args .now) (c .loop-x .x-index) (c .loop-x .inv .0) part all room
-        (c .push-node .result) (c .push-node .ensures .value);
+          (c .push-node .result) (c .push-node .ensures .value);
       cells = made;
       trail = same;
       grew = grew-structured (c .args .symbol) (c .args .args .now) made same;
