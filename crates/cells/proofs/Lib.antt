@@ -1,0 +1,4 @@
+pub mod Seals
+pub mod StateLaws
+pub mod GrowthLaws
+pub mod StructureLaws

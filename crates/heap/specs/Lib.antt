@@ -1,0 +1,4 @@
+pub mod Limits
+pub mod Heaps
+pub mod Solutions
+pub mod Marks

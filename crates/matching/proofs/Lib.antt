@@ -1,0 +1,3 @@
+pub mod TrailLaws
+pub mod RowLaws
+pub mod JoinLaws
