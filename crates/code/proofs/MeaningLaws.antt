@@ -6,14 +6,18 @@ use mathlib.Core.List.{List, [], _∷_}
 use Prim.Native.Nat.{ℕ, suc, zero, _+_, _≤_, _<_}
 use native.Mathlib.Omega.{arith}
 use lib.Dec.{eqb}
+use lib.ListN.{length}
 use Rattle.std.proofs.shelf.Tests.{eqb-false}
+use Rattle.horn.specs.Clauses.{Clause}
+use Rattle.horn.specs.Weights.{clauseWeight}
+use Rattle.horn.specs.Instances.{SameRule, clauseRule}
 use Rattle.horn.specs.Terms.{Term, Terms, var, node, cons}
 use Rattle.code.specs.declared.instructions.Operand.{Operand}
 use Rattle.code.specs.declared.instructions.Operand.the-variants.{Fresh, Known, Constant}
 use Rattle.code.specs.declared.instructions.Instruction.{Instruction}
 use Rattle.code.specs.declared.instructions.Instruction.the-variants.{Allocate, Get, GetStructure, Unify, Put, PutStructure, Set, Call, Proceed}
 use Rattle.code.specs.Ready.{In, Takes, fills, Pieces, Ready}
-use Rattle.code.specs.Meaning.{Symbols, Terming, span, given, parts, update, Says, goals, Alike, Defined}
+use Rattle.code.specs.Meaning.{Symbols, Terming, span, given, parts, update, Says, goals, codeRule, Denotes, Alike, Defined}
 
 span-same : (π ρ : Terming) (k n : ℕ) → ((a : ℕ) → k ≤ a → a < k + n → π a ≡ ρ a) → span π k n ≡ span ρ k n
 span-same π ρ k zero h = refl
@@ -75,4 +79,13 @@ defined s n m r code h =
     record {
       says = λ α β σ τ p q. says-same s n m r α β σ τ p q code [] [] h;
       leaves = λ σ τ π ρ q. goals-same s n m r var var σ τ (λ a l. refl) q code [] [] h π ρ (λ a i. absurd i);
+    }
+
+-- code of the right length that denotes a clause is that clause's rule
+pub same-rule : (s : Symbols) (p : ℕ) (code : List Instruction) (c : Clause) → Denotes s p code c → length code ≡ clauseWeight c + 2 → SameRule (codeRule s p code) (clauseRule c)
+same-rule s p code c d e =
+    record {
+      name = d .named;
+      relates = λ ts gs. (d .into ts gs, d .back ts gs);
+      weight = omega arith;
     }

@@ -2,10 +2,12 @@
 use mathlib.Core.Path.{_≡_}
 use mathlib.Core.Bool.{cond}
 use mathlib.Core.List.{List, [], _∷_}
-use Prim.Native.Nat.{ℕ, suc, zero, _<_, _≤_}
+use Prim.Native.Nat.{ℕ, suc, zero, _-_, _<_, _≤_}
 use lib.Dec.{eqb}
-use Rattle.horn.specs.Terms.{Name, Term, Terms, var, node, nil, cons, eval, evals}
-use Rattle.horn.specs.Clauses.{Variable, Clause}
+use lib.ListN.{length}
+use Rattle.horn.specs.Terms.{Name, Term, Terms, var, node, nil, cons}
+use Rattle.horn.specs.Clauses.{Clause}
+use Rattle.horn.specs.Instances.{Rule, clauseRule}
 use Rattle.code.specs.declared.instructions.Operand.{Operand}
 use Rattle.code.specs.declared.instructions.Operand.the-variants.{Fresh, Known, Constant}
 use Rattle.code.specs.declared.instructions.Instruction.{Instruction}
@@ -91,19 +93,15 @@ Holds s code α σ gs = Says s code α σ × (gs ≡ goals s code σ var)
 abbrev pub Runs : Symbols → ℕ → List Instruction → Terms ℕ → Terms ℕ → Type 0
 Runs s p code ts gs = (α σ : Terming) × (ts ≡ span α 1 (s .arity p)) × Holds s code α σ gs
 
-abbrev pub headName : {V : Type 0} → Term V → Name
-headName (var v) = []
-headName (node f ts) = f
-
--- some terms for the clause's variables make its head name(ts) and its body gs
-abbrev pub Means : Clause → Terms ℕ → Terms ℕ → Type 0
-Means c ts gs = (τ : Variable → Term ℕ) × (eval (c .head) τ ≡ node (headName (c .head)) ts) × (evals (c .goals) τ ≡ gs)
+-- the code as a rule; a clause's code has two words more than its weight
+abbrev pub codeRule : Symbols → ℕ → List Instruction → Rule
+codeRule s p code = record { name = s .name p; relates = Runs s p code; weight = length code - 2 }
 
 -- the code of the predicate p runs for just the instances of the clause
 pub record Denotes (s : Symbols) (p : ℕ) (code : List Instruction) (c : Clause) : Type 0 where
-  pub named : s .name p ≡ headName (c .head)
-  pub into : (ts gs : Terms ℕ) → Runs s p code ts gs → Means c ts gs
-  pub back : (ts gs : Terms ℕ) → Means c ts gs → Runs s p code ts gs
+  pub named : s .name p ≡ clauseRule c .name
+  pub into : (ts gs : Terms ℕ) → Runs s p code ts gs → clauseRule c .relates ts gs
+  pub back : (ts gs : Terms ℕ) → clauseRule c .relates ts gs → Runs s p code ts gs
 
 abbrev pub Alike : (ℕ → Type 0) → Terming → Terming → Type 0
 Alike In α β = (k : ℕ) → In k → α k ≡ β k

@@ -4,6 +4,7 @@ ghost use mathlib.Core.Bool.{true};
 ghost use mathlib.Core.List.{[], map};
 ghost use Prim.Native.Nat.{_≤_};
 ghost use lib.Dec.{leb};
+ghost use Rattle.code.specs.Limits.{argumentLimit};
 ghost use Rattle.code.specs.Tests.{every};
 ghost use Rattle.code.specs.Instructions.{got, put};
 ghost use Rattle.code.specs.Words.{decode};
@@ -26,7 +27,7 @@ fn bump(c: u8) -> u8
 
 // The counts once the argument `a` is met; those of 0 do not matter.
 fn note(counts: [u8; 9], a: usize) -> [u8; 9]
-    requires { ⌜ a ≤ 8 ⌝ }
+    requires { ⌜ a ≤ argumentLimit ⌝ }
     ensures { λ r. ⌜ r ≡ noteArg counts a ⌝ }
 {
     let mut next = counts;
@@ -58,8 +59,8 @@ fn is_full(counts: [u8; 9], m: usize) -> bool
 
 // The arguments 1 to m, and none beyond, are each read once.
 fn reads_head(code: &[u32], m: usize) -> bool
-    requires low { ⌜ m ≤ 8 ⌝ }
-    requires small { ⌜ every (λ w. leb (got w) 8) (map decode (now code)) ≡ true ⌝ }
+    requires low { ⌜ m ≤ argumentLimit ⌝ }
+    requires small { ⌜ every (λ w. leb (got w) argumentLimit) (map decode (now code)) ≡ true ⌝ }
     ensures { λ r. ⌜ r ≡ filled got m (map decode (now (code .entry))) ⌝ }
 {
     let mut counts: [u8; 9] = [0; 9];
@@ -72,7 +73,7 @@ fn reads_head(code: &[u32], m: usize) -> bool
 
 // The counts after an instruction: a call wants its arguments met, and begins anew.
 fn count_word(counts: [u8; 9], word: Instruction, arities: &[u8]) -> Option<[u8; 9]>
-    requires { ⌜ put word ≤ 8 ⌝ }
+    requires { ⌜ put word ≤ argumentLimit ⌝ }
     ensures { λ r. ⌜ r ≡ callNext (now (arities .entry)) counts word ⌝ }
 {
     let Some(p) = word.called() else {
@@ -86,8 +87,8 @@ fn count_word(counts: [u8; 9], word: Instruction, arities: &[u8]) -> Option<[u8;
 
 // Since the previous call, each argument of a call is put once, and none beyond.
 fn fills_calls(code: &[u32], arities: &[u8]) -> bool
-    requires low { ⌜ every (λ a. leb a 8) (now arities) ≡ true ⌝ }
-    requires small { ⌜ every (λ w. leb (put w) 8) (map decode (now code)) ≡ true ⌝ }
+    requires low { ⌜ every (λ a. leb a argumentLimit) (now arities) ≡ true ⌝ }
+    requires small { ⌜ every (λ w. leb (put w) argumentLimit) (map decode (now code)) ≡ true ⌝ }
     ensures { λ r. ⌜ r ≡ calls (now (arities .entry)) [] (map decode (now (code .entry))) ⌝ }
 {
     let mut counts: [u8; 9] = [0; 9];
@@ -102,10 +103,10 @@ fn fills_calls(code: &[u32], arities: &[u8]) -> bool
 
 // The head has m arguments.
 pub(crate) fn keeps_arguments(code: &[u32], arities: &[u8], m: usize) -> bool
-    requires low { ⌜ m ≤ 8 ⌝ }
-    requires arities { ⌜ every (λ a. leb a 8) (now arities) ≡ true ⌝ }
-    requires got { ⌜ every (λ w. leb (got w) 8) (map decode (now code)) ≡ true ⌝ }
-    requires put { ⌜ every (λ w. leb (put w) 8) (map decode (now code)) ≡ true ⌝ }
+    requires low { ⌜ m ≤ argumentLimit ⌝ }
+    requires arities { ⌜ every (λ a. leb a argumentLimit) (now arities) ≡ true ⌝ }
+    requires got { ⌜ every (λ w. leb (got w) argumentLimit) (map decode (now code)) ≡ true ⌝ }
+    requires put { ⌜ every (λ w. leb (put w) argumentLimit) (map decode (now code)) ≡ true ⌝ }
     ensures { λ r. ⌜ r ≡ v6 m (now (arities .entry)) (map decode (now (code .entry))) ⌝ }
 {
     if !reads_head(code, m) {

@@ -4,6 +4,7 @@ ghost use mathlib.Core.Bool.{_&&_};
 ghost use Prim.Native.Nat.{_<_};
 ghost use lib.Dec.{leb, ltb, eqb};
 ghost use lib.ListN.{length, getD};
+ghost use Rattle.code.specs.Limits.{argumentLimit};
 ghost use Rattle.code.specs.Rules.{opened, inRange, legal, v1};
 use crate::table::Kind;
 use crate::table::look_up;
@@ -31,7 +32,7 @@ pub(crate) fn opened_by(code: &[u32]) -> usize
 }
 
 fn is_argument(value: usize) -> bool
-    ensures { λ r. ⌜ r ≡ (leb 1 value && leb value 8) ⌝ }
+    ensures { λ r. ⌜ r ≡ (leb 1 value && leb value argumentLimit) ⌝ }
 {
     if value < 1 {
         return false;

@@ -2,6 +2,7 @@
 ghost use mathlib.Core.Path.{_≡_};
 ghost use mathlib.Core.Bool.{true};
 ghost use lib.Dec.{leb};
+ghost use Rattle.code.specs.Limits.{argumentLimit};
 ghost use Rattle.code.specs.Tests.{every};
 ghost use Rattle.code.specs.Rules.{broken};
 use crate::arguments::keeps_arguments;
@@ -16,7 +17,7 @@ use crate::structures::keeps_structures;
 
 // The lowest rule that a clause's code breaks, or 0.
 pub fn broken_rule(code: &[u32], arities: &[u8], predicate: usize, key: usize) -> u8
-    requires { ⌜ every (λ a. leb a 8) (now arities) ≡ true ⌝ }
+    requires { ⌜ every (λ a. leb a argumentLimit) (now arities) ≡ true ⌝ }
     ensures { λ r. ⌜ r ≡ broken (now (arities .entry)) predicate key (now (code .entry)) ⌝ }
 {
     if !keeps_ranges(code, arities) {

@@ -17,10 +17,11 @@ use Rattle.std.specs.declared.result.Result.the-variants.{Ok, Err}
 use Rattle.image.specs.declared.faults.ImageFault.{ImageFault}
 use Rattle.image.specs.declared.faults.ImageFault.the-variants.{Symbol, Layout}
 use Rattle.code.specs.Tests.{every, some}
-use Rattle.image.specs.Symbols.{symbolOf, symbolFault, arity, arityOf, proper, same, nameWords, sizeOf}
+use Rattle.image.specs.Symbols.{symbolOf, symbolsOf, afterSymbols, symbolFault, arity, arityOf, proper, same, nameWords, sizeOf}
 use Rattle.image.specs.Bytes.{bytesOf}
 use Rattle.lines.specs.Words.{isName}
 use Rattle.image.specs.Rows.{rowsOf, rowFault}
+use Rattle.image.proofs.SymbolLaws.{symbols-alone}
 use Rattle.image.specs.Checked.{Parts, unless, codeFault, fitting, laidOut, body, isHeader, checked}
 
 module _ (syms : List (List ℕ)) (s c k : ℕ) (ws rows code ar : List ℕ) (fits : fitting (length ws) c k ≡ true)
@@ -93,3 +94,15 @@ pub checked-body : (xs : List ℕ) → 4 ≤ length xs → isHeader (getD xs 0 0
     → body (getD xs 1 0) (getD xs 2 0) (getD xs 3 0) (rest4 xs) ≡ checked xs
 checked-body xs h t =
     sym (ap checked (four xs h) ∙ cond-true (isHeader (getD xs 0 0) (getD xs 1 0) (getD xs 2 0) (getD xs 3 0)) _ _ t)
+
+-- the symbols' words alone
+pub alone : (s n : ℕ) (ws left : List ℕ) → left ≡ afterSymbols s ws → n ≡ length ws - length left → symbolsOf s (take (n - 0) ws) ≡ symbolsOf s ws
+alone s n ws left e q =
+    let z : n - 0 ≡ length ws - length (afterSymbols s ws) = (let l : length left ≡ length (afterSymbols s ws) = ap length e in omega arith) in
+    ap (λ m. symbolsOf s (take m ws)) z ∙ symbols-alone s ws
+
+pub body-done : (s c k n : ℕ) (ws left : List ℕ) (r : Result Parts ImageFault) → left ≡ afterSymbols s ws → n ≡ length ws - length left → None ≡ mapped Symbol (symbolFault [] (symbolsOf s ws))
+    → r ≡ laidOut (symbolsOf s (take (n - 0) ws)) c k left → r ≡ body s c k ws
+body-done s c k n ws left r e q f h =
+    h ∙ ap₂ (λ (x : List (List ℕ)) (y : List ℕ). laidOut x c k y) (alone s n ws left e q) e
+    ∙ sym (ap (λ (o : Option ℕ). unless Symbol o (laidOut (symbolsOf s ws) c k (afterSymbols s ws))) (no-fault (symbolFault [] (symbolsOf s ws)) f))

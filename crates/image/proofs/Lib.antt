@@ -7,3 +7,4 @@ pub mod SpellLaws
 pub mod NextLaws
 pub mod CutLaws
 pub mod ImageLaws
+pub mod DistinctLaws

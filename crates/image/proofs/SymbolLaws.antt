@@ -1,5 +1,6 @@
 -- Symbols in turn.
 use mathlib.Core.Path.{_≡_, refl, sym, _∙_, ap, ap₂}
+use mathlib.Core.Logic.{_⊎_, inl, inr}
 use mathlib.Core.Bool.{Bool, true, false, cond, not, _&&_, _||_}
 use mathlib.Core.List.{List, [], _∷_, _++_, map}
 use Prim.Native.Nat.{ℕ, suc, zero, _+_, _-_, _≤_, _<_}
@@ -8,7 +9,8 @@ use native.Mathlib.Numerals.{add-one}
 use lib.Dec.{eqb}
 use lib.ListN.{length, getD, take, drop, set}
 use lib.Seq.{take-all}
-use Rattle.std.proofs.shelf.Lists.{at-drop-more, at-drop-all, take-rest, map-append, take-more-set}
+use Rattle.std.proofs.shelf.Lists.{length-drop, drop-all, take-take, drop-take, at-drop-more, at-drop-all, take-rest, map-append, take-more-set}
+use Rattle.std.proofs.shelf.Tests.{cases-lt, cases-eq}
 use Rattle.std.specs.declared.option.Option.the-variants.{Some}
 use Rattle.code.specs.Tests.{some}
 use Rattle.image.specs.Symbols.{extent, symbolsOf, afterSymbols, proper, same, symbolFault, arity, nameWords}
@@ -108,3 +110,48 @@ module _ (left : List ℕ) (count i : ℕ) (lt : i < count) (x y : List ℕ) (is
 
 pub none-left : (left : List ℕ) (count i : ℕ) → count ≤ i → symbolsOf (count - i) left ≡ []
 none-left left count i h = let e : count - i ≡ 0 = omega arith in ap (λ n. symbolsOf n left) e
+
+-- the words of the symbols alone
+after-none : (n : ℕ) → afterSymbols n [] ≡ []
+after-none zero = refl
+after-none (suc n) = after-none n
+
+pub after-length : (n : ℕ) (ws : List ℕ) → length (afterSymbols n ws) ≤ length ws
+after-length zero ws = omega arith
+after-length (suc n) ws = let ih = after-length n (drop (extent ws) ws) in let d = length-drop (extent ws) ws in omega arith
+
+extent-take : (k : ℕ) (ws : List ℕ) → 0 < k → extent (take k ws) ≡ extent ws
+extent-take zero ws h = absurd (omega arith)
+extent-take (suc k) [] h = refl
+extent-take (suc k) (w ∷ ws) h = refl
+
+extent-some : (ws : List ℕ) → 0 < length ws → 0 < extent ws
+extent-some [] h = absurd (omega arith)
+extent-some (w ∷ ws) h = omega arith
+
+pub symbols-alone : (n : ℕ) (ws : List ℕ) → symbolsOf n (take (length ws - length (afterSymbols n ws)) ws) ≡ symbolsOf n ws
+symbols-alone zero ws = refl
+symbols-alone (suc n) ws = go (symbols-alone n (drop (extent ws) ws)) (cases-lt (length ws) (extent ws))
+  where
+    go : symbolsOf n (take (length (drop (extent ws) ws) - length (afterSymbols n (drop (extent ws) ws))) (drop (extent ws) ws)) ≡ symbolsOf n (drop (extent ws) ws)
+        → (length ws < extent ws) ⊎ (extent ws ≤ length ws)
+        → symbolsOf (suc n) (take (length ws - length (afterSymbols n (drop (extent ws) ws))) ws) ≡ symbolsOf (suc n) ws
+    go ih (inl l) =
+        let none : afterSymbols n (drop (extent ws) ws) ≡ [] = ap (afterSymbols n) (drop-all (extent ws) ws (omega arith)) ∙ after-none n in
+        let all : length ws - length (afterSymbols n (drop (extent ws) ws)) ≡ length ws = ap (λ (x : List ℕ). length ws - length x) none ∙ omega arith in
+        ap (λ k. symbolsOf (suc n) (take k ws)) all ∙ ap (symbolsOf (suc n)) (take-all (length ws) ws (omega arith))
+    go ih (inr g) = by (cases-eq (length ws) 0)
+      where
+        by : (length ws ≡ 0) ⊎ (length ws ≡ 0 → ⊥) → symbolsOf (suc n) (take (length ws - length (afterSymbols n (drop (extent ws) ws))) ws) ≡ symbolsOf (suc n) ws
+        by (inl z) = ap (symbolsOf (suc n)) (take-all (length ws - length (afterSymbols n (drop (extent ws) ws))) ws (omega arith))
+        by (inr nz) =
+            let k = length (drop (extent ws) ws) - length (afterSymbols n (drop (extent ws) ws)) in
+            let d = length-drop (extent ws) ws in
+            let u = after-length n (drop (extent ws) ws) in
+            let some : 0 < extent ws = extent-some ws (omega arith) in
+            let total : length ws - length (afterSymbols n (drop (extent ws) ws)) ≡ extent ws + k = omega arith in
+            let x : extent (take (extent ws + k) ws) ≡ extent ws = extent-take (extent ws + k) ws (omega arith) in
+            ap (λ j. symbolsOf (suc n) (take j ws)) total
+            ∙ ap (λ j. take j (take (extent ws + k) ws) ∷ symbolsOf n (drop j (take (extent ws + k) ws))) x
+            ∙ ap₂ (λ (a : List ℕ) (b : List ℕ). a ∷ symbolsOf n b) (take-take (extent ws) (extent ws + k) ws (omega arith)) (drop-take (extent ws) k ws)
+            ∙ ap (λ (l : List (List ℕ)). take (extent ws) ws ∷ l) ih

@@ -5,4 +5,5 @@ pub mod Rows
 pub mod Checked
 pub mod Said
 pub mod Images
+pub mod Programs
 pub mod Refusals

@@ -5,11 +5,14 @@ ghost use mathlib.Core.List.{map};
 ghost use Prim.Native.Nat.{_≤_};
 ghost use lib.Dec.{leb};
 ghost use Rattle.std.specs.Vec.{made};
+ghost use Rattle.lines.specs.Limits.{arityLimit};
 ghost use Rattle.code.specs.Tests.{every};
+ghost use Rattle.image.specs.Limits.{symbolLimit, clauseLimit, codeLimit};
 ghost use Rattle.image.specs.Symbols.{symbolsOf, arity};
 ghost use Rattle.image.specs.Checked.{isHeader, fitting, laidOut, body, checked};
 ghost use Rattle.image.specs.Said.{said, partsOf};
 ghost use Rattle.image.specs.Images.{OneImage, ClausesRunnable};
+ghost use Rattle.image.specs.Programs.{Distinct};
 use crate::clauses::check_code;
 use crate::faults::ImageFault;
 use crate::rows::check_rows;
@@ -44,8 +47,8 @@ fn is_header(format: u32, symbols: usize, clauses: usize, size: usize) -> bool
 
 // Whether so many words are left for the rows and the code.
 fn is_fitting(len: usize, clauses: usize, size: usize) -> bool
-    requires few { ⌜ clauses ≤ 256 ⌝ }
-    requires small { ⌜ size ≤ 8192 ⌝ }
+    requires few { ⌜ clauses ≤ clauseLimit ⌝ }
+    requires small { ⌜ size ≤ codeLimit ⌝ }
     ensures { λ r. ⌜ r ≡ fitting len clauses size ⌝ }
 {
     if len != 3 * clauses + size {
@@ -57,7 +60,7 @@ fn is_fitting(len: usize, clauses: usize, size: usize) -> bool
     size == 0
 }
 
-// The rows and the code, `left`, after the symbols at the front of `words`.
+// The rows and the code, `left`, after the symbols, of which these are the words.
 fn check_layout<'a>(
     words: &'a [u32],
     symbols: usize,
@@ -66,10 +69,10 @@ fn check_layout<'a>(
     size: usize,
     arities: &[u8],
 ) -> Result<Image<'a>, ImageFault>
-    requires few { ⌜ clauses ≤ 256 ⌝ }
-    requires small { ⌜ size ≤ 8192 ⌝ }
+    requires few { ⌜ clauses ≤ clauseLimit ⌝ }
+    requires small { ⌜ size ≤ codeLimit ⌝ }
     requires arities { ⌜ now arities ≡ map arity (symbolsOf symbols (now words)) ⌝ }
-    requires low { ⌜ every (λ a. leb a 8) (now arities) ≡ true ⌝ }
+    requires low { ⌜ every (λ a. leb a arityLimit) (now arities) ≡ true ⌝ }
     ensures { λ r. ⌜ said r ≡ laidOut (symbolsOf symbols (now (words .entry))) clauses size (now (left .entry)) ⌝ }
 {
     if !is_fitting(left.len(), clauses, size) {
@@ -98,14 +101,22 @@ fn check_body<'a>(
     clauses: usize,
     size: usize,
 ) -> Result<Image<'a>, ImageFault>
-    requires some { ⌜ symbols ≤ 256 ⌝ }
-    requires few { ⌜ clauses ≤ 256 ⌝ }
-    requires small { ⌜ size ≤ 8192 ⌝ }
+    requires some { ⌜ symbols ≤ symbolLimit ⌝ }
+    requires few { ⌜ clauses ≤ clauseLimit ⌝ }
+    requires small { ⌜ size ≤ codeLimit ⌝ }
     ensures { λ r. ⌜ said r ≡ body symbols clauses size (now (words .entry)) ⌝ }
 {
     let mut arities: [u8; SYMBOL_LIMIT] = [0; SYMBOL_LIMIT];
     let left = check_symbols(words, symbols, &mut arities[..])?;
-    check_layout(words, symbols, left, clauses, size, &arities[0..symbols])
+    let count = words.len() - left.len();
+    check_layout(
+        &words[0..count],
+        symbols,
+        left,
+        clauses,
+        size,
+        &arities[0..symbols],
+    )
 }
 
 fn check_words<'a>(words: &'a [u32]) -> Result<Image<'a>, ImageFault>
@@ -129,6 +140,7 @@ fn check_words<'a>(words: &'a [u32]) -> Result<Image<'a>, ImageFault>
 pub fn check<'a>(words: &'a [u32]) -> Result<Image<'a>, ImageFault>
     ensures value { λ r. ⌜ said r ≡ checked (now (words .entry)) ⌝ }
     ensures one_image { λ r. ⌜ OneImage (now (words .entry)) (said r) ⌝ }
+    ensures symbols { λ r. ⌜ made r (λ i. Distinct (partsOf i .symbols)) ⌝ }
     ensures clauses { λ r. ⌜ made r (λ i. ClausesRunnable (partsOf i)) ⌝ }
 {
     check_words(words)

@@ -5,7 +5,9 @@ ghost use Prim.Native.Nat.{_≤_, _*_};
 ghost use lib.Dec.{leb};
 ghost use lib.ListN.{length};
 ghost use Rattle.std.specs.declared.option.Option.the-variants.{None};
+ghost use Rattle.lines.specs.Limits.{arityLimit};
 ghost use Rattle.code.specs.Tests.{every};
+ghost use Rattle.image.specs.Limits.{clauseLimit};
 ghost use Rattle.image.specs.Rows.{rowsOf, rowFault};
 ghost use Rattle.image.specs.Checked.{codeFault};
 use crate::faults::ImageFault;
@@ -21,9 +23,9 @@ pub(crate) fn check_code(
     arities: &[u8],
 ) -> Option<ImageFault>
     requires count { ⌜ length (now rows) ≡ 3 * count ⌝ }
-    requires few { ⌜ count ≤ 256 ⌝ }
+    requires few { ⌜ count ≤ clauseLimit ⌝ }
     requires sound { ⌜ rowFault (length (now arities)) (length (now code)) 0 (rowsOf (now rows)) ≡ None ⌝ }
-    requires low { ⌜ every (λ a. leb a 8) (now arities) ≡ true ⌝ }
+    requires low { ⌜ every (λ a. leb a arityLimit) (now arities) ≡ true ⌝ }
     ensures { λ r. ⌜ r ≡ codeFault (now (arities .entry)) (now (code .entry)) 0 (rowsOf (now (rows .entry))) ⌝ }
 {
     for i in 0..count {

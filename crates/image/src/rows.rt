@@ -2,6 +2,7 @@
 ghost use mathlib.Core.Path.{_≡_};
 ghost use Prim.Native.Nat.{_≤_, _<_, _*_, _+_, _^_};
 ghost use lib.ListN.{length};
+ghost use Rattle.image.specs.Limits.{clauseLimit};
 ghost use Rattle.image.specs.Rows.{rowsOf, rowAt, nextAt, goodRow, rowFault};
 
 // A clause's predicate, its key, and where its code starts.
@@ -56,7 +57,7 @@ fn is_good(row: Row, i: usize, symbols: usize, end: usize) -> bool
 // The lowest clause, from 1, whose row is wrong.
 pub(crate) fn check_rows(rows: &[u32], count: usize, symbols: usize, size: usize) -> Option<usize>
     requires count { ⌜ length (now rows) ≡ 3 * count ⌝ }
-    requires few { ⌜ count ≤ 256 ⌝ }
+    requires few { ⌜ count ≤ clauseLimit ⌝ }
     ensures { λ r. ⌜ r ≡ rowFault symbols size 0 (rowsOf (now (rows .entry))) ⌝ }
 {
     for i in 0..count {

@@ -5,7 +5,7 @@ use crate::rows::Row;
 use crate::rows::row_at;
 use crate::symbols::Symbols;
 
-// A view of an image's words: its symbols and what follows them, its rows, and its code.
+// A view of an image's words: its symbols, its rows, and its code.
 #[derive(Clone, Copy)]
 pub struct Image<'a> {
     pub symbol_count: usize,
