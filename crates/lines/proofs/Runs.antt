@@ -63,6 +63,15 @@ after-some (b ∷ bs) n h e =
     (ap₂ take (omega arith) (sym r))
     (ap after (ap₂ drop (sym m) (sym r) ∙ sym (take-rest (rest (b ∷ bs)) n)))
 
+pub after-empty : (xs : List ℕ) → eqb (length xs) 0 ≡ eqb (length (after xs)) 0
+after-empty [] = refl
+after-empty (b ∷ bs) =
+    ne-eqb (suc (length bs)) 0 (λ e. omega arith)
+    ∙ sym (ap (λ (fs : List (List ℕ)). eqb (length fs) 0) (split-is bs) ∙ ne-eqb (suc (length (after (drop (run 44 bs) bs)))) 0 (λ e. omega arith))
+
+pub after-cut : (xs : List ℕ) (n : ℕ) → n ≡ run 44 xs → after (take (length xs - n) (drop n xs)) ≡ after (drop (run 44 xs) xs)
+after-cut xs n e = ap after (take-rest xs n ∙ ap (λ k. drop k xs) e)
+
 -- a field at its slash
 pub shape-none : (f r : List ℕ) → length r ≡ 0 → shape f r ≡ plainly f
 shape-none f [] h = refl

@@ -1,7 +1,10 @@
 -- What an accepted line says.
 use mathlib.Core.Path.{_≡_}
+use mathlib.Core.Bool.{Bool}
 use mathlib.Core.List.{List, []}
 use Prim.Native.Nat.{ℕ, _+_}
+use lib.Dec.{eqb}
+use lib.ListN.{length}
 use Rattle.std.specs.declared.result.Result.{Result}
 use Rattle.std.specs.declared.result.Result.the-variants.{Ok, Err}
 use Rattle.lines.specs.declared.kind.Kind.{Kind}
@@ -21,6 +24,10 @@ use Rattle.lines.specs.Clauses.{clauseFrom}
 -- the words that are left
 abbrev pub wordsLeft : Fields → List Word
 wordsLeft fields = wordsOf (after (fields .rest .now))
+
+-- whether no field is left
+abbrev pub noneLeft : Fields → Bool
+noneLeft fields = eqb (length (after (fields .rest .now))) 0
 
 -- its terms as they are written: a clause's head and goals, a query's goals
 abbrev pub termsOf : Line → Written

@@ -2,11 +2,12 @@
 ghost use mathlib.Core.Path.{_≡_};
 ghost use mathlib.Core.List.{[], _∷_};
 ghost use Prim.Native.Nat.{_<_};
-ghost use lib.ListN.{length};
+ghost use lib.ListN.{length, drop};
 ghost use Rattle.std.specs.Options.{Cases as BySome};
 ghost use Rattle.lines.specs.Fields.{after};
-ghost use Rattle.lines.specs.Said.{wordsLeft};
-ghost use Rattle.lines.specs.Tokens.{word};
+ghost use Rattle.lines.specs.Said.{wordsLeft, noneLeft};
+ghost use Rattle.lines.specs.Tokens.{word, wordsOf};
+ghost use Rattle.lines.specs.Words.{run};
 use crate::bytes::run_len;
 use crate::tokens::Token;
 use crate::tokens::read_token;
@@ -18,6 +19,21 @@ pub struct Fields<'a> {
 }
 
 impl<'a> Fields<'a> {
+    // The fields of a line after the first.
+    pub fn of(line: &'a [u8]) -> Fields<'a>
+        ensures { λ r. ⌜ wordsLeft r ≡ wordsOf (after (drop (run 44 (now (line .entry))) (now (line .entry)))) ⌝ }
+    {
+        let n = run_len(line, b',');
+        Fields { rest: &line[n..] }
+    }
+
+    // Whether no field is left.
+    pub fn is_empty(&self) -> bool
+        ensures { λ r. ⌜ r ≡ noneLeft (now (self .entry)) ⌝ }
+    {
+        self.rest.is_empty()
+    }
+
     pub(crate) fn next_field(&mut self) -> Option<&'a [u8]>
         ensures value { λ r. ⌜ BySome r (after (now (now (self .entry) .rest)) ≡ []) (λ f. after (now (now (self .entry) .rest)) ≡ now f ∷ after (now (now (self .exit) .rest))) ⌝ }
         ensures shorter { λ r. ⌜ BySome r (Unit {0}) (λ f. length (now (now (self .exit) .rest)) < length (now (now (self .entry) .rest))) ⌝ }

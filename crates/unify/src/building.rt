@@ -23,15 +23,16 @@ fn all_below(args: &[u16], top: u16) -> bool
 }
 
 // The cell of a variable: `known` has 1 more than it, or 0.
-fn variable(store: &mut Store, known: &mut [u16; PART_LIMIT], v: u8) -> Option<u16>
+fn variable(store: &mut Store, known: &mut [u16; PART_LIMIT], v: usize) -> Option<u16>
+    requires { ⌜ v < 2048 ⌝ }
     ensures { λ _. ⌜ Grew (cellsOf (now (store .entry))) (boundOf (now (store .entry))) (cellsOf (now (store .exit))) (boundOf (now (store .exit))) ⌝ }
 {
-    let was = known[v as usize];
+    let was = known[v];
     if was > 0 {
         return Some(was - 1);
     }
     let cell = store.push_unbound()?;
-    known[v as usize] = cell.saturating_add(1);
+    known[v] = cell.saturating_add(1);
     Some(cell)
 }
 
@@ -51,19 +52,20 @@ fn place(
     store: &mut Store,
     known: &mut [u16; PART_LIMIT],
     part: Part,
-    first: u8,
+    first: usize,
     args: &[u16],
 ) -> Option<u16>
+    requires { ⌜ first < 2048 ⌝ }
     ensures { λ _. ⌜ Grew (cellsOf (now (store .entry))) (boundOf (now (store .entry))) (cellsOf (now (store .exit))) (boundOf (now (store .exit))) ⌝ }
 {
     if part.variable {
         return variable(store, known, first);
     }
-    structure(store, u16::from(first), args)
+    structure(store, first as u16, args)
 }
 
-// The cell of the first term of the line.
-pub fn build(store: &mut Store, line: &[u8], parts: &[Part]) -> Option<u16>
+// The cells of the two terms of the line; none where they are not two.
+pub fn build(store: &mut Store, line: &[u8], parts: &[Part]) -> Option<(u16, u16)>
     ensures { λ _. ⌜ Grew (cellsOf (now (store .entry))) (boundOf (now (store .entry))) (cellsOf (now (store .exit))) (boundOf (now (store .exit))) ⌝ }
 {
     let mut known = [0; PART_LIMIT];
@@ -77,15 +79,15 @@ pub fn build(store: &mut Store, line: &[u8], parts: &[Part]) -> Option<u16>
             return None;
         }
         let end = at + n;
-        let cell = place(store, &mut known, part, first as u8, &stack[at..end])?;
+        let cell = place(store, &mut known, part, first, &stack[at..end])?;
         if end == 0 {
             return None;
         }
         at = end - 1;
         stack[at] = cell;
     }
-    if at >= PART_LIMIT {
+    if at != PART_LIMIT - 2 {
         return None;
     }
-    Some(stack[at])
+    Some((stack[at], stack[at + 1]))
 }

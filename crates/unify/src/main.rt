@@ -4,7 +4,7 @@ mod parts;
 mod problem;
 mod writing;
 
-use lines::Gathered;
+use problem::LINE_LIMIT;
 use problem::Problem;
 use std::alloc::AllocError;
 use std::alloc::Global;
@@ -13,10 +13,10 @@ use std::io::BufWriter;
 use std::io::Read;
 use std::io::Write;
 
-// The line under way, the problem, and the text that is still to be printed.
+// The line under way, with at most one byte too many, the problem, and the text that is still to be printed.
 #[derive(Drop)]
 struct Matcher {
-    line: Gathered,
+    line: Vec<u8>,
     problem: Problem,
     text: Vec<u8>,
 }
@@ -24,7 +24,7 @@ struct Matcher {
 impl Matcher {
     fn new(heap: Global) -> Matcher {
         Matcher {
-            line: Gathered::new(),
+            line: Vec::new(heap),
             problem: Problem::new(),
             text: Vec::new(heap),
         }
@@ -35,15 +35,15 @@ impl Matcher {
         for b in bytes {
             if *b == b'\n' {
                 self.end_line()?;
-            } else {
-                self.line.push(*b);
+            } else if self.line.len() <= LINE_LIMIT {
+                self.line.push(*b)?;
             }
         }
         Ok(())
     }
 
     fn end_line(&mut self) -> Result<(), AllocError> {
-        self.problem.answer(self.line.line(), &mut self.text)?;
+        self.problem.answer(self.line.as_slice(), &mut self.text)?;
         self.line.clear();
         Ok(())
     }

@@ -2,11 +2,11 @@
 ghost use Prim.Native.Nat.{_≤_};
 ghost use lib.ListN.{length};
 ghost use Rattle.std.specs.Options.{Cases as BySome};
+use lines::Fields;
 use lines::Token;
-use lines::read_query;
 
-// The most fields that a line has.
-pub const PART_LIMIT: usize = 256;
+// The most fields that the terms of a line have.
+pub const PART_LIMIT: usize = 2048;
 
 #[derive(Clone, Copy)]
 pub struct Part {
@@ -49,17 +49,14 @@ fn part_of<'a>(token: Token<'a>, start: usize) -> (Part, usize) {
     }
 }
 
-// The parts of a query line with one goal, and how many there are; none where the line is refused.
+// The parts after the letter of a line, and how many there are; none where a field has no form, or there are too many.
 pub fn take_parts(line: &[u8], parts: &mut [Part]) -> Option<usize>
     ensures { λ r. ⌜ BySome r (Unit {0}) (λ n. n ≤ length (now (parts .entry))) ⌝ }
 {
-    let Ok(query) = read_query(line) else {
-        return None;
-    };
-    let mut body = query.body;
-    let mut start = 4;
+    let mut fields = Fields::of(line);
+    let mut start = 2;
     let mut count = 0;
-    while let Some(token) = body.next_token() {
+    while let Some(token) = fields.next_token() {
         if count >= parts.len() {
             return None;
         }
@@ -67,6 +64,9 @@ pub fn take_parts(line: &[u8], parts: &mut [Part]) -> Option<usize>
         parts[count] = part;
         count += 1;
         start = next;
+    }
+    if !fields.is_empty() {
+        return None;
     }
     Some(count)
 }

@@ -1,7 +1,5 @@
 // One problem: two terms to make one.
 ghost use mathlib.Core.Path.{_≡_};
-ghost use Prim.Native.Nat.{_≤_};
-ghost use Rattle.std.specs.Options.{Cases as BySome};
 ghost use Rattle.cells.specs.Growth.{Grew};
 ghost use Rattle.cells.specs.Stores.{cellsOf, boundOf};
 use crate::building::build;
@@ -12,40 +10,21 @@ use crate::writing::Numbers;
 use crate::writing::write_term;
 use cells::Store;
 use heap::CELL_LIMIT;
-use heap::Cell;
 use std::alloc::AllocError;
 
-// The most bytes of a query line.
-const LINE_LIMIT: usize = 512;
+// The most bytes of a line.
+pub const LINE_LIMIT: usize = 16384;
 
 #[derive(Drop)]
 pub struct Problem {
-    line: [u8; LINE_LIMIT],
     parts: [Part; PART_LIMIT],
     pending: [u16; CELL_LIMIT],
     store: Store,
 }
 
-// The line `U,s,t` as the query `u(s, t)`: answers its length.
-fn as_query(line: &[u8], out: &mut [u8; LINE_LIMIT]) -> Option<usize>
-    ensures { λ r. ⌜ BySome r (Unit {0}) (λ n. n ≤ 512) ⌝ }
-{
-    let [b'U', rest @ ..] = line else {
-        return None;
-    };
-    if rest.len() > LINE_LIMIT - 7 {
-        return None;
-    }
-    let mut n = 0;
-    for b in b"Q,1,u/2" {
-        out[n] = *b;
-        n += 1;
-    }
-    for b in rest {
-        out[n] = *b;
-        n += 1;
-    }
-    Some(n)
+// Whether the first field of the line is `U`, and there are more.
+fn begins(line: &[u8]) -> bool {
+    line.len() > 1 && line[0] == b'U' && line[1] == b','
 }
 
 // What came of a problem; the common instance has a cell.
@@ -54,21 +33,6 @@ enum Outcome {
     Refused,
     Apart,
     One(u16),
-}
-
-// The two arguments of the goal.
-fn arguments(store: &Store, goal: u16) -> Option<(u16, u16)> {
-    if goal >= store.top() {
-        return None;
-    }
-    match store.get(goal) {
-        Cell::Node {
-            symbol: _,
-            arity: 2,
-            first,
-        } => Some((first, first.saturating_add(1))),
-        _ => None,
-    }
 }
 
 fn unified(store: &mut Store, a: u16, b: u16) -> bool
@@ -83,14 +47,11 @@ fn unified(store: &mut Store, a: u16, b: u16) -> bool
     store.unify(a, b)
 }
 
-// Makes the two terms of a query line one.
+// Makes the two terms of a line one.
 fn matched(store: &mut Store, line: &[u8], parts: &[Part]) -> Outcome
     ensures { λ _. ⌜ Grew (cellsOf (now (store .entry))) (boundOf (now (store .entry))) (cellsOf (now (store .exit))) (boundOf (now (store .exit))) ⌝ }
 {
-    let Some(goal) = build(store, line, parts) else {
-        return Outcome::Refused;
-    };
-    let Some((a, b)) = arguments(store, goal) else {
+    let Some((a, b)) = build(store, line, parts) else {
         return Outcome::Refused;
     };
     if !unified(store, a, b) {
@@ -121,8 +82,8 @@ fn write_outcome(
     }
 }
 
-// Writes the common instance of the terms of a query line, or that there is none; the store is then as it was.
-fn solve_query(
+// Writes the common instance of the terms of a line, or that there is none; the store is then as it was.
+fn solve_parts(
     line: &[u8],
     parts: &[Part],
     pending: &mut [u16; CELL_LIMIT],
@@ -142,25 +103,23 @@ fn solve_query(
 
 fn solve(
     line: &[u8],
-    query: &mut [u8; LINE_LIMIT],
     parts: &mut [Part; PART_LIMIT],
     pending: &mut [u16; CELL_LIMIT],
     store: &mut Store,
     text: &mut Vec<u8>,
 ) -> Result<(), AllocError> {
-    let Some(n) = as_query(line, query) else {
+    if line.len() > LINE_LIMIT || !begins(line) {
+        return text.extend_from_slice(b"refused\n");
+    }
+    let Some(count) = take_parts(line, parts) else {
         return text.extend_from_slice(b"refused\n");
     };
-    let Some(count) = take_parts(&query[0..n], parts) else {
-        return text.extend_from_slice(b"refused\n");
-    };
-    solve_query(&query[0..n], &parts[0..count], pending, store, text)
+    solve_parts(line, &parts[0..count], pending, store, text)
 }
 
 impl Problem {
     pub fn new() -> Problem {
         Problem {
-            line: [0; LINE_LIMIT],
             parts: [Part {
                 start: 0,
                 len: 0,
@@ -176,7 +135,6 @@ impl Problem {
     pub fn answer(&mut self, line: &[u8], text: &mut Vec<u8>) -> Result<(), AllocError> {
         solve(
             line,
-            &mut self.line,
             &mut self.parts,
             &mut self.pending,
             &mut self.store,

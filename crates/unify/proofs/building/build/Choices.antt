@@ -6,4 +6,4 @@ use Rattle.cells.specs.Stores.{cellsOf, boundOf}
 use Rattle.unify.proofs.building.build.Given as given
 
 abbrev pub Inv-loop-i : given.InvT-loop-i
-Inv-loop-i l = (l .at ≤ 256) × (length (l .stack) ≡ 256) × Grew (cellsOf (l .entry .store)) (boundOf (l .entry .store)) (cellsOf (l .store)) (boundOf (l .store))
+Inv-loop-i l = (l .at ≤ 2048) × (length (l .stack) ≡ 2048) × Grew (cellsOf (l .entry .store)) (boundOf (l .entry .store)) (cellsOf (l .store)) (boundOf (l .store))

@@ -6,4 +6,4 @@ abbrev pub Inv-loop-token : given.InvT-loop-token
 Inv-loop-token l = l .count ≤ length (l .entry .parts)
 
 abbrev pub μ-loop-token : given.MeasureT-loop-token
-μ-loop-token l = length (l .body .rest .now)
+μ-loop-token l = length (l .fields .rest .now)

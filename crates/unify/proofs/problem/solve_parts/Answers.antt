@@ -4,7 +4,7 @@ use Rattle.matching.specs.Trails.{undone}
 use Rattle.cells.specs.Growth.{Saves}
 use Rattle.cells.specs.Stores.{cellsOf, boundOf}
 use Rattle.cells.proofs.GrowthLaws.{saves-grew, grew-cells, grew-trail}
-use Rattle.unify.proofs.problem.solve_query.Needs as need
+use Rattle.unify.proofs.problem.solve_parts.Needs as need
 
 pub leave-requires : need.leave-requires
 leave-requires c κs =
