@@ -1,5 +1,5 @@
 use native.Mathlib.Omega.{arith}
-use mathlib.Core.Path.{_≡_, refl, sym, ap}
+use mathlib.Core.Path.{_≡_, refl, sym, _∙_, ap}
 use lib.ListN.{take}
 use Rattle.heap.specs.Heaps.{cell, arity}
 use Rattle.heap.specs.declared.cell.Cell.the-variants.{Unbound, Ref}
@@ -22,6 +22,20 @@ returns-then-n-eq0 c = record {
   room = refl;
   result = constants (c .args .cells .now) _ (c .args .i) (c .args .j) _ _ _ _ _ _ (c .pre .sound) (c .pre .closed) (c .pre .i-within) (c .pre .j-within)
       (c .in-Node .is) (c .in-Node-cells .is) (c .if-f-g .left) (c .if-n-m .left) (c .if-n-eq0 .taken);
+}
+
+pub attach-requires : need.attach-requires
+attach-requires c κs = record {
+  closed = c .pre .closed;
+  small = c .pre .small;
+  i-within = c .pre .i-within;
+  j-within = c .pre .j-within;
+  i-root = c .pre .i-root;
+  j-root = c .pre .j-root;
+  other = c .pre .other;
+  arguments = ap arity (c .in-Node-cells .is) ∙ sym (c .if-n-m .left);
+  room = c .pre .room;
+  visits-room = c .pre .visits-room;
 }
 
 pub returns-then-not-attach : need.returns-then-not-attach
@@ -48,6 +62,20 @@ returns-else-not-attach c = record {
       (c .in-Node .is) (c .in-Node-cells .is) (c .if-f-g .left) (c .if-n-m .left) (rw (c .if-not-attach .left) at (c .attach .ensures .result)) (c .push-rows .ensures .after);
 }
 
+pub attach-requires-in-rest-cells : need.attach-requires-in-rest-cells
+attach-requires-in-rest-cells c κs = record {
+  closed = c .pre .closed;
+  small = c .pre .small;
+  i-within = c .pre .j-within;
+  j-within = c .pre .i-within;
+  i-root = c .pre .j-root;
+  j-root = c .pre .i-root;
+  other = λ q. c .pre .other (sym q);
+  arguments = ap arity (c .in-Node .is);
+  room = c .pre .room;
+  visits-room = c .pre .visits-room;
+}
+
 pub returns-in-rest-cells : need.returns-in-rest-cells
 returns-in-rest-cells c =
     let free : cell (c .args .cells .now) (c .args .j) ≡ Unbound = root-free _ (c .pre .j-root) (c .in-rest-cells .not-Node) in
@@ -57,6 +85,20 @@ returns-in-rest-cells c =
       result = attached-free-swapped (c .args .cells .now) _ (c .args .i) (c .args .j) (c .attach-in-rest-cells .last .cells) (c .attach-in-rest-cells .result)
           (c .pre .sound) (c .pre .closed) (c .pre .i-within) (c .pre .j-within) free (c .pre .i-root) (c .pre .other) (c .attach-in-rest-cells .ensures .result);
     }
+
+pub attach-requires-in-Node-cells-2 : need.attach-requires-in-Node-cells-2
+attach-requires-in-Node-cells-2 c κs = record {
+  closed = c .pre .closed;
+  small = c .pre .small;
+  i-within = c .pre .i-within;
+  j-within = c .pre .j-within;
+  i-root = c .pre .i-root;
+  j-root = c .pre .j-root;
+  other = c .pre .other;
+  arguments = ap arity (c .in-Node-cells-2 .is);
+  room = c .pre .room;
+  visits-room = c .pre .visits-room;
+}
 
 pub returns-in-Node-cells-2 : need.returns-in-Node-cells-2
 returns-in-Node-cells-2 c =
@@ -68,6 +110,20 @@ returns-in-Node-cells-2 c =
           (c .pre .sound) (c .pre .closed) (c .pre .i-within) (c .pre .j-within) free (c .pre .j-root) (c .pre .other) (c .attach-in-Node-cells-2 .ensures .result);
     }
 
+pub attach-requires-then-i-j : need.attach-requires-then-i-j
+attach-requires-then-i-j c κs = record {
+  closed = c .pre .closed;
+  small = c .pre .small;
+  i-within = c .pre .j-within;
+  j-within = c .pre .i-within;
+  i-root = c .pre .j-root;
+  j-root = c .pre .i-root;
+  other = λ q. c .pre .other (sym q);
+  arguments = ap arity (root-free _ (c .pre .i-root) (c .in-rest .not-Node));
+  room = c .pre .room;
+  visits-room = c .pre .visits-room;
+}
+
 pub returns-then-i-j : need.returns-then-i-j
 returns-then-i-j c =
     let free : cell (c .args .cells .now) (c .args .j) ≡ Unbound = root-free _ (c .pre .j-root) (c .in-rest-cells-2 .not-Node) in
@@ -77,6 +133,20 @@ returns-then-i-j c =
       result = attached-free-swapped (c .args .cells .now) _ (c .args .i) (c .args .j) (c .attach-then-i-j .last .cells) (c .attach-then-i-j .result)
           (c .pre .sound) (c .pre .closed) (c .pre .i-within) (c .pre .j-within) free (c .pre .i-root) (c .pre .other) (c .attach-then-i-j .ensures .result);
     }
+
+pub attach-requires-in-rest-cells-2 : need.attach-requires-in-rest-cells-2
+attach-requires-in-rest-cells-2 c κs = record {
+  closed = c .pre .closed;
+  small = c .pre .small;
+  i-within = c .pre .i-within;
+  j-within = c .pre .j-within;
+  i-root = c .pre .i-root;
+  j-root = c .pre .j-root;
+  other = c .pre .other;
+  arguments = ap arity (root-free _ (c .pre .j-root) (c .in-rest-cells-2 .not-Node));
+  room = c .pre .room;
+  visits-room = c .pre .visits-room;
+}
 
 pub returns-else-i-j : need.returns-else-i-j
 returns-else-i-j c =
