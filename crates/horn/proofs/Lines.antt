@@ -112,7 +112,7 @@ module _ (ρ ρ′ : ℕ → Term ℕ) where
 
   -- the values θ′ are the values θ, named anew
   module _ (θ θ′ : Values) where
-    abbrev Fits : Name → Type 0
+    abbrev pub Fits : Name → Type 0
     Fits v = (θ′ (named v) ≡ eval (θ (named v)) ρ) × (eval (eval (θ (named v)) ρ) ρ′ ≡ θ (named v))
 
     values-map : (vs : List Name) → All Fits vs → valuesOf θ′ vs ≡ evals (valuesOf θ vs) ρ
@@ -134,7 +134,7 @@ module _ (ρ ρ′ : ℕ → Term ℕ) where
             ∙ eval-on (θ (named v)) _ _ (λ x o. let k = renamed-in (θ (named v)) (h .0 .1) x o in
             ap (λ t. eval t (λ x. var (labelIn (map r us) x))) (k .0) ∙ ap (λ n. var (label n)) (place-map x us k a))
 
-    line-map : (vs : List Name) → All Fits vs → lineOf θ vs ≡ lineOf θ′ vs
+    pub line-map : (vs : List Name) → All Fits vs → lineOf θ vs ≡ lineOf θ′ vs
     line-map vs h =
         let ts = valuesOf θ vs in
         let us = unbound ts in

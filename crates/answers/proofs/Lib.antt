@@ -1,0 +1,10 @@
+pub mod TakeLaws
+pub mod SinkLaws
+pub mod FieldLaws
+pub mod NumberLaws
+pub mod Pigeons
+pub mod FrameLaws
+pub mod StreamLaws
+pub mod TurnLaws
+pub mod ShowLaws
+pub mod LineLaws
