@@ -17,7 +17,7 @@ use Rattle.code.specs.Passes.{onward, walk, order, orderStep}
 abbrev answer : Bool → Bool → Bool → Bool → Bool → Bool
 answer b o h c v = (not b || not h) && ((not o || c) && v)
 
-abbrev done : Order → Bool
+abbrev pub done : Order → Bool
 done s = not (s .owed)
 
 abbrev follows : Order → List Instruction → Bool

@@ -41,13 +41,13 @@ built-past (suc k) o h =
 
 -- the parts of a word
 module _ (o a b : ℕ) (l : a < 256) (m : b < 65536) where
-  opcode-packed : opcode (packed o a b) ≡ o
+  pub opcode-packed : opcode (packed o a b) ≡ o
   opcode-packed = omega arith
 
-  first-packed : first (packed o a b) ≡ a
+  pub first-packed : first (packed o a b) ≡ a
   first-packed = omega arith
 
-  second-packed : second (packed o a b) ≡ b
+  pub second-packed : second (packed o a b) ≡ b
   second-packed = omega arith
 
   decode-packed : decode (packed o a b) ≡ spread (found o) o a b

@@ -54,8 +54,8 @@ fn key_by(operand: Operand, code: &[u32]) -> usize
     }
 }
 
-// The key of a clause with this code.
-fn key_of(code: &[u32]) -> usize
+// The key that a clause's code gives its row.
+pub fn key_of(code: &[u32]) -> usize
     ensures { λ r. ⌜ r ≡ keyOf (map decode (now (code .entry))) ⌝ }
 {
     for (i, w) in code.iter().enumerate() {

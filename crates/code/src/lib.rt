@@ -14,6 +14,8 @@ mod words;
 
 pub use instructions::Instruction;
 pub use instructions::Operand;
+pub use key::key_of;
+pub use ranges::opened_by;
 pub use rules::broken_rule;
 pub use table::Entry;
 pub use table::Kind;

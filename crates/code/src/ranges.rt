@@ -18,7 +18,7 @@ const SLOT_LIMIT: usize = 128;
 const ARGUMENT_LIMIT: usize = 8;
 
 // The slots that the code opens.
-pub(crate) fn opened_by(code: &[u32]) -> usize
+pub fn opened_by(code: &[u32]) -> usize
     ensures value { λ r. ⌜ r ≡ opened (now (code .entry)) ⌝ }
     ensures small { λ r. ⌜ r < 256 ⌝ }
 {

@@ -32,6 +32,8 @@ pub enum LineFault {
 #[derive(Clone, Copy)]
 pub enum CallFault {
     Line(LineFault),
+    // the clauses (1), symbols (2) or code words (3) pass their limit
+    Limit { place: usize },
     // what is to be written is longer than the buffer
     Buffer,
 }

@@ -47,6 +47,7 @@ impl CallFault {
     {
         match self {
             CallFault::Line(fault) => fault.refusal(),
+            CallFault::Limit { place } => Refusal::at(8, 3, place),
             CallFault::Buffer => Refusal::at(10, 3, 0),
         }
     }

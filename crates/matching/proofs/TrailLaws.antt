@@ -3,6 +3,7 @@ use mathlib.Core.Path.{_≡_, refl, sym, _∙_, ap, subst}
 use mathlib.Core.List.{List, [], _∷_, _++_, append-assoc, append-nil}
 use Prim.Native.Nat.{ℕ, _+_, suc, zero, _<_, _≤_}
 use native.Mathlib.Omega.{arith}
+use native.Mathlib.Decide.{ℕ-discrete}
 use lib.ListN.{length, getD, set, take, drop, length-set, length-append}
 use Rattle.std.specs.shelf.Lists.{All}
 use Rattle.std.proofs.shelf.Lists.{set-set, set-getD, drop-append-le, take-append-le, length-push, take-all, drop-all, drop-at, take-at}
@@ -10,7 +11,7 @@ use Rattle.std.proofs.shelf.Elements.{all-append}
 use Rattle.heap.specs.Heaps.{Heap, cell, Rooted, total, plain, arity}
 use Rattle.heap.specs.declared.cell.Cell.{Cell}
 use Rattle.heap.specs.declared.cell.Cell.the-variants.{Unbound, Ref, Node}
-use Rattle.heap.proofs.HeapLaws.{total-set}
+use Rattle.heap.proofs.HeapLaws.{total-set, cell-other, cell-same}
 use Rattle.matching.specs.Trails.{undone, InTrail, Kept, Undoing}
 use Rattle.matching.specs.declared.trail.Bound.{Bound}
 
@@ -31,6 +32,7 @@ kept-none H t = record {
   inside = tt;
   bound = omega arith;
   fewer = omega arith;
+  nodes = λ i f n b e. e;
 }
 
 -- what is no reference may be bound
@@ -53,6 +55,11 @@ kept-one H t t′ i j lt root e = record {
   inside = (lt, tt);
   bound = omega (arith, ap length e, length-push t (record { at = i; was = cell H i }), total-set plain H i (Ref j) lt, plain-one (cell H i) root);
   fewer = omega (arith, total-set arity H i (Ref j) lt);
+  nodes = λ k f n b e.
+      elim (ℕ-discrete k i) [
+        | yes q ↦ (let r : cell (set H i (Ref j)) k ≡ Ref j = ap (cell (set H i (Ref j))) q ∙ cell-same H i (Ref j) lt in let z : _≡_ {A = ℕ} 0 1 = cc in absurd (omega arith))
+        | no ne ↦ sym (cell-other H i k (Ref j) ne) ∙ e
+      ];
 }
 
 pub kept-trans : {H H′ H″ : Heap} {t t′ t″ : List Bound} → Kept H t H′ t′ → Kept H′ t′ H″ t″ → Kept H t H″ t″
@@ -64,6 +71,7 @@ kept-trans {H} {H′} {H″} {t} {t′} {t″} p q = record {
   inside = all-append _ (p .added) (q .added) (p .inside) (subst (λ n. All (λ b. b .at < n) (q .added)) (p .long) (q .inside));
   bound = omega (arith, p .bound, q .bound);
   fewer = omega (arith, p .fewer, q .fewer);
+  nodes = λ i f n b e. p .nodes i f n b (q .nodes i f n b e);
 }
 
 all-last : {X : Type 0} (P : X → Type 0) (xs : List X) (y : X) → All P (xs ++ y ∷ []) → All P xs × P y

@@ -4,7 +4,8 @@ use mathlib.Core.List.{List, [], _∷_, _++_}
 use Prim.Native.Nat.{ℕ, _+_, _<_, _≤_}
 use lib.ListN.{length, set, take, drop}
 use Rattle.std.specs.shelf.Lists.{All}
-use Rattle.heap.specs.Heaps.{Heap, total, plain, arity}
+use Rattle.heap.specs.Heaps.{Heap, cell, total, plain, arity}
+use Rattle.heap.specs.declared.cell.Cell.the-variants.{Node}
 use Rattle.matching.specs.declared.trail.Bound.{Bound}
 use Rattle.matching.specs.declared.trail.Trail.{Trail}
 
@@ -31,6 +32,8 @@ pub record Kept (H : Heap) (t : List Bound) (H′ : Heap) (t′ : List Bound) : 
   -- a reference is never bound again
   pub bound : length t′ + total plain H′ ≤ length t + total plain H
   pub fewer : total arity H′ ≤ total arity H
+  -- a structure was the same structure before
+  pub nodes : (i f n b : ℕ) → cell H′ i ≡ Node f n b → cell H i ≡ Node f n b
 
 -- what is left to take back
 pub record Undoing (H₀ : Heap) (t₀ : List Bound) (mark : ℕ) (H : Heap) (t : List Bound) : Type 0 where

@@ -1,0 +1,17 @@
+pub mod Symbols
+pub mod Terms
+pub mod Places
+pub mod Reading
+pub mod Filling
+pub mod Order
+pub mod Rows
+pub mod Scripts
+pub mod Lawful
+pub mod Output
+pub mod Emits
+pub mod Lines
+pub mod Steps
+pub mod Tables
+pub mod Written
+pub mod Flatten
+pub mod Compiled

@@ -1,0 +1,6 @@
+// The deck: the clause lines that it took.
+mod noting;
+mod state;
+mod taking;
+
+pub use state::Deck;

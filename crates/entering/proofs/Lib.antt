@@ -1,0 +1,10 @@
+pub mod TurnLaws
+pub mod OperandLaws
+pub mod RowLaws
+pub mod ReadyLaws
+pub mod StepLaws
+pub mod EntryLaws
+pub mod CheckLaws
+pub mod PathLaws
+pub mod KeyLaws
+pub mod Sample

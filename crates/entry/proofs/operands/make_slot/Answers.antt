@@ -1,0 +1,4 @@
+use Rattle.entry.proofs.operands.make_slot.Needs as need
+
+pub push-ref-requires : need.push-ref-requires
+push-ref-requires c κs = c .pre .inside (c .args .y) (c .in-Some .i) (c .in-Some .is)

@@ -1,0 +1,5 @@
+pub mod Queries
+pub mod Stacks
+pub mod Starts
+pub mod Stored
+pub mod Spelling
