@@ -1,4 +1,4 @@
-// Lists an image file: its header, symbols and clauses, or the one line of its fault.
+// Lists image files: the header, symbols and clauses of each, or the one line of its fault.
 mod listing;
 
 use image::check;
@@ -9,15 +9,10 @@ use std::env;
 use std::error::AnyError;
 use std::fs;
 
-// The listing of the file that the first argument names.
-fn inspect(rt: &LibcRuntime) -> Result<(), AnyError> {
+// Prints the listing of a file.
+fn inspect(rt: &LibcRuntime, path: &str) -> Result<(), AnyError> {
     let heap = rt.alloc();
-    let mut args = env::args(rt)?;
-    let _ = args.next();
-    let Some(path) = args.next() else {
-        return Err("usage: inspect FILE".into());
-    };
-    let bytes = fs::read(rt, path.as_str())?;
+    let bytes = fs::read(rt, path)?;
     if bytes.len() % 4 != 0 {
         return Err("the file is no whole number of words".into());
     }
@@ -30,6 +25,21 @@ fn inspect(rt: &LibcRuntime) -> Result<(), AnyError> {
     Ok(())
 }
 
+// The listings of the files that the arguments name, one after another.
+fn inspect_all(rt: &LibcRuntime) -> Result<(), AnyError> {
+    let mut args = env::args(rt)?;
+    let _ = args.next();
+    let mut some = false;
+    for path in args {
+        inspect(rt, path.as_str())?;
+        some = true;
+    }
+    if some {
+        return Ok(());
+    }
+    Err("usage: inspect FILE..".into())
+}
+
 fn main(rt: LibcRuntime) -> Result<(), AnyError> {
-    rt.report(inspect(&rt))
+    rt.report(inspect_all(&rt))
 }
