@@ -8,5 +8,5 @@ pub struct Marks {
     pub(crate) stamps: [u32; CELL_LIMIT],
     pub(crate) last: u32,
     ghost long: { length stamps ≡ 4224 },
-    ghost old: { ((i : ℕ) → slice_index stamps i ≤ last) },
+    ghost stamped: { ((i : ℕ) → slice_index stamps i ≤ last) },
 }

@@ -15,6 +15,6 @@ loop-w-preserved c = sym (notes-turn got c.args.code.now c.loop-w.w-index c.loop
 pub returns : goal.returns
 returns c =
     let code = c.args.code.now in
-    c.is-full.ensures
+    c.is_full.ensures
     ∙ ap (full c.args.m) (sym (at_drop_all (λ l. notes got c.loop-w.counts (map decode l)) code c.loop-w.w-index (search rules)) ∙ c.loop-w.invariant)
     ∙ head-is got c.args.m c.requires.low (map decode code) c.requires.small

@@ -9,7 +9,7 @@ pub returns-in-Some : goal.returns-in-Some
 returns-in-Some c = sym (on-turn c.args.code.now c.loop-w.w-index (search rules) c.decode.result c.decode.ensures.value c.args.slot (Some c.in-Some.f) c.in-Some.ensures) ∙ c.loop-w.invariant
 
 pub loop-w-preserved : goal.loop-w-preserved
-loop-w-preserved c = sym (on-turn c.args.code.now c.loop-w.w-index (search rules) c.decode.result c.decode.ensures.value c.args.slot None c.in-default.ensures) ∙ c.loop-w.invariant
+loop-w-preserved c = sym (on-turn c.args.code.now c.loop-w.w-index (search rules) c.decode.result c.decode.ensures.value c.args.slot None c.in_default.ensures) ∙ c.loop-w.invariant
 
 pub returns : goal.returns
 returns c = sym (at_drop_all (λ l. structure_on c.args.slot (map decode l)) c.args.code.now c.loop-w.w-index (search rules)) ∙ c.loop-w.invariant

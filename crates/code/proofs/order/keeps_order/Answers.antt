@@ -5,8 +5,8 @@ use Rattle.code.proofs.Turns.{walk_turn, walk_end}
 use Rattle.code.proofs.OrderLaws.{order_is}
 use Rattle.code.proofs.order.keeps_order.Goals as goal
 
-pub returns-in-default : goal.returns-in-default
-returns-in-default c = sym (walk_turn order_step (λ s. not s.owed) c.loop-w.state c.args.code.now c.loop-w.w-index c.decode.result None (search rules) c.decode.ensures.value c.in-default.ensures) ∙ c.loop-w.invariant ∙ order_is (map decode c.args.code.now)
+pub returns-in_default : goal.returns-in_default
+returns-in_default c = sym (walk_turn order_step (λ s. not s.owed) c.loop-w.state c.args.code.now c.loop-w.w-index c.decode.result None (search rules) c.decode.ensures.value c.in_default.ensures) ∙ c.loop-w.invariant ∙ order_is (map decode c.args.code.now)
 
 pub loop-w-preserved : goal.loop-w-preserved
 loop-w-preserved c = sym (walk_turn order_step (λ s. not s.owed) c.loop-w.state c.args.code.now c.loop-w.w-index c.decode.result (Some c.in-Some.next) (search rules) c.decode.ensures.value c.in-Some.ensures) ∙ c.loop-w.invariant

@@ -7,22 +7,22 @@ use Rattle.code.proofs.RangeLaws.{all-inside, all-got, all-put}
 use Rattle.code.proofs.ArgumentLaws.{every-at}
 use Rattle.code.proofs.rules.broken_rule.Goals as goal
 
-pub keeps-slots-requires : goal.keeps-slots-requires
-keeps-slots-requires c =
+pub keeps_slots-requires : goal.keeps_slots-requires
+keeps_slots-requires c =
     let code = c.args.code.now in
     let ar = c.args.arities.now in
     record {
-      few = omega (arith, c.opened-by.ensures.small);
-      inside = subst (λ n. every (λ w. inside n (sets w)) (map decode code) ≡ true) (sym c.opened-by.ensures.value) (all-inside ar code (sym c.if-not-keeps-ranges.ensures));
+      few = omega (arith, c.opened_by.ensures.small);
+      inside = subst (λ n. every (λ w. inside n (sets w)) (map decode code) ≡ true) (sym c.opened_by.ensures.value) (all-inside ar code (sym c.if-not-keeps_ranges.ensures));
     }
 
-pub keeps-arguments-requires : goal.keeps-arguments-requires
-keeps-arguments-requires c =
+pub keeps_arguments-requires : goal.keeps_arguments-requires
+keeps_arguments-requires c =
     let code = c.args.code.now in
     let ar = c.args.arities.now in
     record {
-      low = omega (arith, c.arity-at.ensures.value, every-at ar c.requires c.args.predicate);
+      low = omega (arith, c.arity_at.ensures.value, every-at ar c.requires c.args.predicate);
       arities = c.requires;
-      got = all-got ar code (sym c.if-not-keeps-ranges.ensures);
-      put = all-put ar code (sym c.if-not-keeps-ranges.ensures);
+      got = all-got ar code (sym c.if-not-keeps_ranges.ensures);
+      put = all-put ar code (sym c.if-not-keeps_ranges.ensures);
     }

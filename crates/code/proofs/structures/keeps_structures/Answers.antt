@@ -6,10 +6,10 @@ use Rattle.code.proofs.Turns.{walk_turn, walk_end}
 use Rattle.code.proofs.DueLaws.{dues-are, done}
 use Rattle.code.proofs.structures.keeps_structures.Goals as goal
 
-pub returns-in-default : goal.returns-in-default
-returns-in-default c =
+pub returns-in_default : goal.returns-in_default
+returns-in_default c =
     let arities = c.args.arities.now in
-    sym (walk_turn (due_step arities) done c.loop-w.state c.args.code.now c.loop-w.w-index c.decode.result None (search rules) c.decode.ensures.value c.in-default.ensures)
+    sym (walk_turn (due_step arities) done c.loop-w.state c.args.code.now c.loop-w.w-index c.decode.result None (search rules) c.decode.ensures.value c.in_default.ensures)
     ∙ c.loop-w.invariant ∙ dues-are arities (map decode c.args.code.now)
 
 pub loop-w-preserved : goal.loop-w-preserved

@@ -8,8 +8,8 @@ use Rattle.code.proofs.words.encode.Goals as goal
 pub returns : goal.returns
 returns c =
     let i = c.args.instruction in
-    let x = c.operands-of-operands in
+    let x = c.operands_of-operands in
     let e : c.pack.result ≡ encode i =
-    encoded-by i c.number-opcode.result c.in-first.result c.in-second.result c.pack.result (get_or table (c.number-opcode.result - 1) (entry Nothing Nothing)) x.result
-    c.number-opcode.ensures.value refl x.ensures.value c.in-first.ensures c.in-second.ensures c.pack.ensures in
+    encoded-by i c.number-opcode.result c.in_first.result c.in_second.result c.pack.result (get_or table (c.number-opcode.result - 1) (entry Nothing Nothing)) x.result
+    c.number-opcode.ensures.value refl x.ensures.value c.in_first.ensures c.in_second.ensures c.pack.ensures in
     record { value = e; back = back_by i c.pack.result x.result x.ensures.value x.ensures.narrow e }

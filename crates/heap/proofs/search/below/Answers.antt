@@ -2,11 +2,11 @@ use Rattle.std.proofs.Common.{arith}
 use Rattle.heap.proofs.HeapLaws.{below-ref, below-node, ref-within, node-fits}
 use Rattle.heap.proofs.search.below.Goals as goal
 
-pub overflow-add-result : goal.overflow-add-result
-overflow-add-result c = omega (arith, ref-within c.args.cells.now c.requires.closed c.args.at c.in-Ref.next c.in-Ref.is)
+pub overflow_add-result : goal.overflow_add-result
+overflow_add-result c = omega (arith, ref-within c.args.cells.now c.requires.closed c.args.at c.in-Ref.next c.in-Ref.is)
 
-pub overflow-add-result-in-Node : goal.overflow-add-result-in-Node
-overflow-add-result-in-Node c = omega (arith, node-fits c.args.cells.now c.requires.closed c.args.at _ c.in-Node.arity c.in-Node.first c.in-Node.is)
+pub overflow_add-result-in-Node : goal.overflow_add-result-in-Node
+overflow_add-result-in-Node c = omega (arith, node-fits c.args.cells.now c.requires.closed c.args.at _ c.in-Node.arity c.in-Node.first c.in-Node.is)
 
 pub returns-in-Ref : goal.returns-in-Ref
 returns-in-Ref c = below-ref c.args.cells.now c.requires.closed c.args.at c.in-Ref.next c.in-Ref.is

@@ -39,5 +39,5 @@ loop-at-preserved c =
 pub returns : goal.returns
 returns c =
     let stack = c.loop-at.stack in
-    let none : length (take stack.len stack.items.now) ≡ 0 = length-take-le stack.len stack.items.now stack.ok ∙ c.in-default.ensures.cases.0 in
+    let none : length (take stack.len stack.items.now) ≡ 0 = length-take-le stack.len stack.items.now stack.ok ∙ c.in_default.ensures.cases.0 in
     (λ q. absurd (not-true q), λ r. absurd (search-end none c.loop-at.invariant.0 r))

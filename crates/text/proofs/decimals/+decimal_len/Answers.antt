@@ -10,6 +10,6 @@ returns-else-n-lt10 t c =
     let fits : c.args.n < 2 ^ 64 = search rules in
     let step = length-step c.args.n c.if-n-lt10.false fits in
     record {
-      value = ap (λ k. k + 1) c.decimal-len.ensures.value ∙ sym step;
-      short = omega (arith, c.decimal-len.ensures.value, step, length-twenty c.args.n fits);
+      value = ap (λ k. k + 1) c.decimal_len.ensures.value ∙ sym step;
+      short = omega (arith, c.decimal_len.ensures.value, step, length-twenty c.args.n fits);
     }

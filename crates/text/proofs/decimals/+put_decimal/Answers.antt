@@ -17,8 +17,8 @@ returns-then-n-lt10 t c =
       after = wrote_one c.args.out.now c.args.at (48 + c.args.n) lt ∙ ap (wrote c.args.out.now c.args.at) (sym (decimal_digit c.args.n c.if-n-lt10.true));
     }
 
-pub put-decimal-end-requires : goal.put-decimal-end-requires
-put-decimal-end-requires t c =
+pub put_decimal-end-requires : goal.put_decimal-end-requires
+put_decimal-end-requires t c =
     let fits : c.args.n < 2 ^ 64 = search rules in
     omega (arith, length-step c.args.n c.if-n-lt10.false fits, c.requires)
 
@@ -26,15 +26,15 @@ pub bounds-out-end : goal.bounds-out-end
 bounds-out-end t c =
     let fits : c.args.n < 2 ^ 64 = search rules in
     let step = length-step c.args.n c.if-n-lt10.false fits in
-    let e = c.put-decimal-end.ensures.end in
-    let l : length c.put-decimal-end.new.out ≡ length c.args.out.now = search rules in
+    let e = c.put_decimal-end.ensures.end in
+    let l : length c.put_decimal-end.new.out ≡ length c.args.out.now = search rules in
     omega (arith, step, e, c.requires, l)
 
-pub overflow-add-result-2 : goal.overflow-add-result-2
-overflow-add-result-2 t c =
+pub overflow_add-result-2 : goal.overflow_add-result-2
+overflow_add-result-2 t c =
     let fits : c.args.n < 2 ^ 64 = search rules in
     let step = length-step c.args.n c.if-n-lt10.false fits in
-    let h : c.put-decimal-end.result + 1 ≤ length c.args.out.now = omega (arith, step, c.put-decimal-end.ensures.end, c.requires) in
+    let h : c.put_decimal-end.result + 1 ≤ length c.args.out.now = omega (arith, step, c.put_decimal-end.ensures.end, c.requires) in
     search rules
 
 pub returns : goal.returns
@@ -44,8 +44,8 @@ returns t c =
     let out = c.args.out.now in
     let at = c.args.at in
     let step = length-step n c.if-n-lt10.false fits in
-    let e = c.put-decimal-end.ensures.end in
-    let is = c.put-decimal-end.ensures.after in
+    let e = c.put_decimal-end.ensures.end in
+    let is = c.put_decimal-end.ensures.after in
     let small : at + length (decimal (n / 10)) ≤ length out = omega (arith, step, c.requires) in
     let lt : at + length (decimal (n / 10)) < length (wrote out at (decimal (n / 10))) = omega (arith, step, c.requires, length-wrote out at (decimal (n / 10)) small) in
     record {

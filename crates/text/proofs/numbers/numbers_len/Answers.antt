@@ -6,13 +6,13 @@ pub returns-then-more-limit : goal.returns-then-more-limit
 returns-then-more-limit c =
     let ns = c.args.numbers.now in
     let lt : c.loop-n.n-index < length ns = search rules in
-    fits_not (left ns 0) c.args.limit (omega (arith, c.loop-n.invariant.1, length_more ns c.loop-n.n-index lt, c.decimal-len-more.ensures.value, c.if-more-limit.true))
+    fits_not (left ns 0) c.args.limit (omega (arith, c.loop-n.invariant.1, length_more ns c.loop-n.n-index lt, c.decimal_len-more.ensures.value, c.if-more-limit.true))
 
 pub loop-n-preserved : goal.loop-n-preserved
 loop-n-preserved c =
     let ns = c.args.numbers.now in
     let lt : c.loop-n.n-index < length ns = search rules in
-    (omega arith, omega (arith, c.loop-n.invariant.1, length_more ns c.loop-n.n-index lt, c.decimal-len-more.ensures.value))
+    (omega arith, omega (arith, c.loop-n.invariant.1, length_more ns c.loop-n.n-index lt, c.decimal_len-more.ensures.value))
 
 pub returns : goal.returns
 returns c =

@@ -10,8 +10,8 @@ bounds-out-end c =
     let lt : c.loop-n.n-index < length ns = search rules in
     omega (arith, c.loop-n.invariant.0, length_more ns c.loop-n.n-index lt)
 
-pub put-decimal-end-requires : goal.put-decimal-end-requires
-put-decimal-end-requires c =
+pub put_decimal-end-requires : goal.put_decimal-end-requires
+put_decimal-end-requires c =
     let ns = c.args.numbers.now in
     let lt : c.loop-n.n-index < length ns = search rules in
     omega (arith, c.loop-n.invariant.0, length_more ns c.loop-n.n-index lt, length-set c.loop-n.out c.loop-n.end 44)
@@ -25,9 +25,9 @@ loop-n-preserved c =
     let d = decimal (get_or ns i 0) in
     let lt : i < length ns = search rules in
     let size = length_more ns i lt in
-    let is = c.put-decimal-end.ensures.after in
-    let at = c.put-decimal-end.ensures.end in
-    let long : length c.put-decimal-end.new.out ≡ length out = ap length is ∙ length-wrote (set out end 44) (end + 1) d (omega (arith, size, c.loop-n.invariant.0, length-set out end 44)) ∙ length-set out end 44 in (
+    let is = c.put_decimal-end.ensures.after in
+    let at = c.put_decimal-end.ensures.end in
+    let long : length c.put_decimal-end.new.out ≡ length out = ap length is ∙ length-wrote (set out end 44) (end + 1) d (omega (arith, size, c.loop-n.invariant.0, length-set out end 44)) ∙ length-set out end 44 in (
       omega (arith, at, size, long, c.loop-n.invariant.0),
       ap₂ (λ o k. wrote o k (left ns (i + 1))) is at ∙ put-more ns i out end lt c.loop-n.invariant.0 ∙ c.loop-n.invariant.1,
     )

@@ -6,5 +6,5 @@ empty-requires c =
     let s = c.args.self.now in
     (unsealed s.cells s.top s.trail s.sane).long
 
-pub invariant-of-self : goal.invariant-of-self
-invariant-of-self c = (∣ c.empty.ensures.sane ∣₁, tt)
+pub invariant_of-self : goal.invariant_of-self
+invariant_of-self c = (∣ c.empty.ensures.sane ∣₁, tt)

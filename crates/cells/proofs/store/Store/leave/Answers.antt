@@ -6,5 +6,5 @@ go-back-requires c =
     let s = c.args.self.now in
     record { sane = unsealed s.cells s.top s.trail s.sane; saved = c.requires }
 
-pub invariant-of-self : goal.invariant-of-self
-invariant-of-self c = (∣ c.go-back.ensures.sane ∣₁, tt)
+pub invariant_of-self : goal.invariant_of-self
+invariant_of-self c = (∣ c.go-back.ensures.sane ∣₁, tt)

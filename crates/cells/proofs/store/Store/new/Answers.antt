@@ -1,5 +1,5 @@
 use Rattle.cells.proofs.StateLaws.{sane-none}
 use Rattle.cells.proofs.store.Store.new.Goals as goal
 
-pub invariant-of-result : goal.invariant-of-result
-invariant-of-result c = (∣ sane-none c.new.result c.new.ensures ∣₁, tt)
+pub invariant_of-result : goal.invariant_of-result
+invariant_of-result c = (∣ sane-none c.new.result c.new.ensures ∣₁, tt)

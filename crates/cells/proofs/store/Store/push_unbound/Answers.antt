@@ -12,8 +12,8 @@ push-cell-requires c =
     let long = used-length s.cells s.top s.trail sane in
     record { sane = sane; older = λ j h. absurd h; spare = omega (arith, sane.fine.arguments, long) }
 
-pub invariant-of-self : goal.invariant-of-self
-invariant-of-self c = (∣ c.push-cell.ensures.sane ∣₁, tt)
+pub invariant_of-self : goal.invariant_of-self
+invariant_of-self c = (∣ c.push-cell.ensures.sane ∣₁, tt)
 
 pub returns : goal.returns
 returns c = record {

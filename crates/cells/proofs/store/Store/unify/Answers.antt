@@ -17,8 +17,8 @@ unite-requires c =
       pairs-room = search rules;
     }
 
-pub invariant-of-self : goal.invariant-of-self
-invariant-of-self c = (∣ c.unite.ensures.sane ∣₁, tt)
+pub invariant_of-self : goal.invariant_of-self
+invariant_of-self c = (∣ c.unite.ensures.sane ∣₁, tt)
 
 pub returns : goal.returns
 returns c = record { kept = c.unite.ensures.kept; grew = grew-kept c.unite.ensures.kept; result = c.unite.ensures.result }

@@ -5,8 +5,8 @@ use Rattle.choosers.specs.Rows.{blank}
 use Rattle.choosers.proofs.NoteLaws.{chain-none}
 use Rattle.choosers.proofs.chains.Chains.new.Goals as goal
 
-pub invariant-of-result : goal.invariant-of-result
-invariant-of-result c = (
+pub invariant_of-result : goal.invariant_of-result
+invariant_of-result c = (
   omega arith,
   (length-replicate 256 blank, (chain-none (replicate 256 blank) (replicate 256 none) (replicate 256 none) (replicate 256 none) (λ s h. get_or-replicate 256 s none 0 h) (λ s h. get_or-replicate 256 s none 0 h), tt)),
 )

@@ -12,8 +12,8 @@ returns-then-at-ge-LIMIT c =
       rows = rows_same s.len s.rows s.whole c.args.row s.within (search rules);
     }
 
-pub invariant-of-self : goal.invariant-of-self
-invariant-of-self c =
+pub invariant_of-self : goal.invariant_of-self
+invariant_of-self c =
     let s = c.args.self.now in (
       search rules,
       (length-set s.rows s.len c.args.row ∙ s.whole, (chain-linked s.len s.rows s.next s.first s.last c.args.row (get_or s.last c.args.row.symbol 0) s.whole (search rules) (search rules) (search rules) (search rules) refl (search rules) (search rules) s.chained, tt)),
@@ -27,8 +27,8 @@ returns-then-before-at c =
       rows = rows_more s.len s.rows s.whole c.args.row (search rules);
     }
 
-pub invariant-of-self-2 : goal.invariant-of-self-2
-invariant-of-self-2 c =
+pub invariant_of-self-2 : goal.invariant_of-self-2
+invariant_of-self-2 c =
     let s = c.args.self.now in (
       search rules,
       (length-set s.rows s.len c.args.row ∙ s.whole, (chain-new s.len s.rows s.next s.first s.last c.args.row (get_or s.last c.args.row.symbol 0) s.whole (search rules) (search rules) (search rules) (search rules) refl (search rules) (search rules) s.chained, tt)),

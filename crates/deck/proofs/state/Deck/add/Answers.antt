@@ -48,16 +48,16 @@ note-symbols-requires c =
 noted-few : (c : After-note-symbols) → c.note-symbols.new.symbols.len ≤ 256
 noted-few c = omega (arith, signature-long c.note-symbols.new.symbols, c.note-symbols.ensures.within (omega (arith, signature-long c.args.self.now.symbols, c.args.self.now.known)))
 
-pub invariant-of-self : goal.invariant-of-self
-invariant-of-self c = (
+pub invariant_of-self : goal.invariant_of-self
+invariant_of-self c = (
   c.args.self.now.few,
-  (omega (arith, signature-long c.truncate.new.self, ap length c.truncate.ensures, length-take c.len-len.result (signature c.note-symbols.new.symbols), signature-long c.note-symbols.new.symbols, noted-few (goal.at.invariant-of-self c).After-note-symbols), (c.args.self.now.short, (c.args.self.now.light, tt))),
+  (omega (arith, signature-long c.truncate.new.self, ap length c.truncate.ensures, length-take c.len-len.result (signature c.note-symbols.new.symbols), signature-long c.note-symbols.new.symbols, noted-few (goal.at.invariant_of-self c).After-note-symbols), (c.args.self.now.short, (c.args.self.now.light, tt))),
 )
 
-pub invariant-of-self-then-words-gt-WORD-LIMIT : goal.invariant-of-self-then-words-gt-WORD-LIMIT
-invariant-of-self-then-words-gt-WORD-LIMIT c = (
+pub invariant_of-self-then-words-gt-WORD-LIMIT : goal.invariant_of-self-then-words-gt-WORD-LIMIT
+invariant_of-self-then-words-gt-WORD-LIMIT c = (
   c.args.self.now.few,
-  (omega (arith, signature-long c.truncate-then-words-gt-WORD-LIMIT.new.self, ap length c.truncate-then-words-gt-WORD-LIMIT.ensures, length-take c.len-len.result (signature c.note-symbols.new.symbols), signature-long c.note-symbols.new.symbols, noted-few (goal.at.invariant-of-self-then-words-gt-WORD-LIMIT c).After-note-symbols), (c.args.self.now.short, (c.args.self.now.light, tt))),
+  (omega (arith, signature-long c.truncate-then-words-gt-WORD-LIMIT.new.self, ap length c.truncate-then-words-gt-WORD-LIMIT.ensures, length-take c.len-len.result (signature c.note-symbols.new.symbols), signature-long c.note-symbols.new.symbols, noted-few (goal.at.invariant_of-self-then-words-gt-WORD-LIMIT c).After-note-symbols), (c.args.self.now.short, (c.args.self.now.light, tt))),
 )
 
 pub truncate-requires : goal.truncate-requires
@@ -102,13 +102,13 @@ write-line-requires c =
 pub overflow-cast-self : goal.overflow-cast-self
 overflow-cast-self c = omega (arith, (clause-of (goal.at.overflow-cast-self c).In-ok-clause).short)
 
-pub invariant-of-self-2 : goal.invariant-of-self-2
-invariant-of-self-2 c = (
+pub invariant_of-self-2 : goal.invariant_of-self-2
+invariant_of-self-2 c = (
   omega (arith, c.args.self.now.few, c.if-k-eq-CLAUSE-LIMIT.false),
   (
-    noted-few (goal.at.invariant-of-self-2 c).After-note-symbols,
+    noted-few (goal.at.invariant_of-self-2 c).After-note-symbols,
     (
-      set_below c.args.self.now.lens c.args.self.now.count (length c.args.line.now) 512 c.args.self.now.short (clause-of (goal.at.invariant-of-self-2 c).In-ok-clause).short,
+      set_below c.args.self.now.lens c.args.self.now.count (length c.args.line.now) 512 c.args.self.now.short (clause-of (goal.at.invariant_of-self-2 c).In-ok-clause).short,
       (
         omega (arith, c.if-words-gt-WORD-LIMIT.false),
         tt,

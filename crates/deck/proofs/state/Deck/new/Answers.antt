@@ -3,5 +3,5 @@ use Rattle.symbols.proofs.SymbolLaws.{signature-long}
 use Rattle.symbols.proofs.NameLaws.{zeros}
 use Rattle.deck.proofs.state.Deck.new.Goals as goal
 
-pub invariant-of-result : goal.invariant-of-result
-invariant-of-result c = (omega arith, (omega (arith, signature-long c.new.result, ap length c.new.ensures), (λ k. zeros 256 512 k, (omega arith, tt))))
+pub invariant_of-result : goal.invariant_of-result
+invariant_of-result c = (omega arith, (omega (arith, signature-long c.new.result, ap length c.new.ensures), (λ k. zeros 256 512 k, (omega arith, tt))))

@@ -3,9 +3,9 @@ use Rattle.std.proofs.Common.{ℕ, arith}
 use Rattle.heap.proofs.StampLaws.{blank-stamps, marked-none}
 use Rattle.heap.proofs.marks.Marks.clear.Goals as goal
 
-pub invariant-of-self : goal.invariant-of-self
-invariant-of-self c = (length-replicate {A = ℕ} 4224 0, (λ i. omega (arith, blank-stamps 4224 i), tt))
+pub invariant_of-self : goal.invariant_of-self
+invariant_of-self c = record { long = length-replicate {A = ℕ} 4224 0; stamped = λ i. omega (arith, blank-stamps 4224 i) }
 
 pub returns : goal.returns
 returns c =
-    marked-none c.args.self.now.stamps _ 4224 c.args.self.now.long (λ i. omega (arith, c.args.self.now.old i))
+    marked-none c.args.self.now.stamps _ 4224 c.args.self.now.long (λ i. omega (arith, c.args.self.now.stamped i))

@@ -3,5 +3,5 @@ use lib.ListN.{length-replicate}
 use Rattle.heap.proofs.StampLaws.{blank-stamps}
 use Rattle.heap.proofs.marks.Marks.new.Goals as goal
 
-pub invariant-of-result : goal.invariant-of-result
-invariant-of-result c = (length-replicate {A = ℕ} 4224 0, (λ i. omega (arith, blank-stamps 4224 i), tt))
+pub invariant_of-result : goal.invariant_of-result
+invariant_of-result c = record { long = length-replicate {A = ℕ} 4224 0; stamped = λ i. omega (arith, blank-stamps 4224 i) }

@@ -9,8 +9,8 @@ name-bytes-name-requires c =
     let s = sized c.first-symbol-words.result.now (sym c.if-not-is-proper.ensures) in
     omega (arith, s.words, s.size)
 
-pub invariant-of-result : goal.invariant-of-result
-invariant-of-result c =
+pub invariant_of-result : goal.invariant_of-result
+invariant_of-result c =
     let s = sized c.first-symbol-words.result.now (sym c.if-not-is-proper.ensures) in
     (omega (arith, s.size), tt)
 

@@ -3,8 +3,8 @@ use Rattle.symbols.proofs.SymbolLaws.{signature-long}
 use Rattle.symbols.proofs.NameLaws.{set_below, symbol-more}
 use Rattle.symbols.proofs.table.SymbolTable.add.Goals as goal
 
-pub invariant-of-self : goal.invariant-of-self
-invariant-of-self c = (
+pub invariant_of-self : goal.invariant_of-self
+invariant_of-self c = (
   omega (arith, c.requires.few, signature-long c.args.self.now),
   (
     set_below _ _ _ 31 c.args.self.now.short c.requires.short,

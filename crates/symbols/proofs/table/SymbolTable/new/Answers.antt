@@ -2,5 +2,5 @@ use Rattle.std.proofs.Common.{arith}
 use Rattle.symbols.proofs.NameLaws.{zeros}
 use Rattle.symbols.proofs.table.SymbolTable.new.Goals as goal
 
-pub invariant-of-result : goal.invariant-of-result
-invariant-of-result c = (omega arith, (λ k. zeros 384 31 k, (λ k. zeros 384 8 k, tt)))
+pub invariant_of-result : goal.invariant_of-result
+invariant_of-result c = (omega arith, (λ k. zeros 384 31 k, (λ k. zeros 384 8 k, tt)))
