@@ -6,7 +6,4 @@ use Rattle.choosers.proofs.NoteLaws.{chain-none}
 use Rattle.choosers.proofs.chains.Chains.new.Goals as goal
 
 pub invariant_of-result : goal.invariant_of-result
-invariant_of-result c = (
-  omega arith,
-  (length-replicate 256 blank, (chain-none (replicate 256 blank) (replicate 256 none) (replicate 256 none) (replicate 256 none) (λ s h. get_or-replicate 256 s none 0 h) (λ s h. get_or-replicate 256 s none 0 h), tt)),
-)
+invariant_of-result c = record { within = omega arith; whole = length-replicate 256 blank; chained = chain-none (replicate 256 blank) (replicate 256 none) (replicate 256 none) (replicate 256 none) (λ s h. get_or-replicate 256 s none 0 h) (λ s h. get_or-replicate 256 s none 0 h) }

@@ -14,10 +14,7 @@ returns-then-at-ge-LIMIT c =
 
 pub invariant_of-self : goal.invariant_of-self
 invariant_of-self c =
-    let s = c.args.self.now in (
-      search rules,
-      (length-set s.rows s.len c.args.row ∙ s.whole, (chain-linked s.len s.rows s.next s.first s.last c.args.row (get_or s.last c.args.row.symbol 0) s.whole (search rules) (search rules) (search rules) (search rules) refl (search rules) (search rules) s.chained, tt)),
-    )
+    let s = c.args.self.now in record { within = search rules; whole = length-set s.rows s.len c.args.row ∙ s.whole; chained = chain-linked s.len s.rows s.next s.first s.last c.args.row (get_or s.last c.args.row.symbol 0) s.whole (search rules) (search rules) (search rules) (search rules) refl (search rules) (search rules) s.chained }
 
 pub returns-then-before-at : goal.returns-then-before-at
 returns-then-before-at c =
@@ -29,10 +26,7 @@ returns-then-before-at c =
 
 pub invariant_of-self-2 : goal.invariant_of-self-2
 invariant_of-self-2 c =
-    let s = c.args.self.now in (
-      search rules,
-      (length-set s.rows s.len c.args.row ∙ s.whole, (chain-new s.len s.rows s.next s.first s.last c.args.row (get_or s.last c.args.row.symbol 0) s.whole (search rules) (search rules) (search rules) (search rules) refl (search rules) (search rules) s.chained, tt)),
-    )
+    let s = c.args.self.now in record { within = search rules; whole = length-set s.rows s.len c.args.row ∙ s.whole; chained = chain-new s.len s.rows s.next s.first s.last c.args.row (get_or s.last c.args.row.symbol 0) s.whole (search rules) (search rules) (search rules) (search rules) refl (search rules) (search rules) s.chained }
 
 pub returns : goal.returns
 returns c =
