@@ -7,7 +7,7 @@ use crate::sink::Sink;
 
 // Puts each of the bytes.
 pub(crate) fn put_bytes<S: Sink>(sink: &mut S, out: &mut [u8], bytes: &[u8]) -> bool
-    ensures { Puts S room holds result sink.old out.old sink.new out.new bytes.now }
+    ensures { Puts S S.room S.holds result sink.old out.old sink.new out.new bytes.now }
 {
     for b in bytes {
         if !sink.put(out, *b) {
@@ -24,7 +24,7 @@ pub(crate) fn put_name<S: Sink, N: Names>(
     names: &N,
     symbol: u16,
 ) -> bool
-    ensures { Puts S room holds result sink.old out.old sink.new out.new (N.Names.naming names.now symbol) }
+    ensures { Puts S S.room S.holds result sink.old out.old sink.new out.new (N.Names.naming names.now symbol) }
 {
     for i in 0..names.name_len(symbol) {
         if !sink.put(out, names.name_byte(symbol, i)) {
@@ -36,7 +36,7 @@ pub(crate) fn put_name<S: Sink, N: Names>(
 
 // Puts a number in decimal.
 pub(crate) fn put_decimal<S: Sink>(sink: &mut S, out: &mut [u8], n: usize) -> bool
-    ensures { Puts S room holds result sink.old out.old sink.new out.new (decimal n) }
+    ensures { Puts S S.room S.holds result sink.old out.old sink.new out.new (decimal n) }
 {
     if n < 10 {
         return sink.put(out, b'0' + n as u8);

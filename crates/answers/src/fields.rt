@@ -9,7 +9,7 @@ use crate::sink::Sink;
 
 // Puts the label of the n-th unbound variable.
 pub(crate) fn put_label<S: Sink>(sink: &mut S, out: &mut [u8], n: u16) -> bool
-    ensures { Puts S room holds result sink.old out.old sink.new out.new (44 ∷ 95 ∷ decimal n) }
+    ensures { Puts S S.room S.holds result sink.old out.old sink.new out.new (44 ∷ 95 ∷ decimal n) }
 {
     if !put_bytes(sink, out, b",_") {
         return false;
@@ -26,7 +26,7 @@ pub(crate) fn put_symbol<S: Sink, N: Names>(
     arity: u16,
 ) -> bool
     requires { arity < 10 }
-    ensures { Puts S room holds result sink.old out.old sink.new out.new (44 ∷ field (word_for (N.Names.naming names.now symbol) arity)) }
+    ensures { Puts S S.room S.holds result sink.old out.old sink.new out.new (44 ∷ field (word_for (N.Names.naming names.now symbol) arity)) }
 {
     if !sink.put(out, b',') {
         return false;

@@ -36,8 +36,8 @@ fn put_field<S: Sink, N: Names>(
     requires tally { seen.old ≡ marked numbers.old }
     ensures tally { seen.new ≡ marked numbers.new }
     ensures frame { IfSome result (λ f. f ≡ frame_at (cell cells.now at) at) }
-    ensures smaller { OnSome result (room sink.new out.new < room sink.old out.old) }
-    ensures after { (us : List ℕ) → Numbered us numbers.old seen.old → Puts S room holds (is_some result) sink.old out.old sink.new out.new (field_at (N.Names.naming names.now) (cell cells.now at) at us) × Numbered (seen_at (cell cells.now at) at us) numbers.new seen.new }
+    ensures smaller { OnSome result (S.room sink.new out.new < S.room sink.old out.old) }
+    ensures after { (us : List ℕ) → Numbered us numbers.old seen.old → Puts S S.room S.holds (is_some result) sink.old out.old sink.new out.new (field_at (N.Names.naming names.now) (cell cells.now at) at us) × Numbered (seen_at (cell cells.now at) at us) numbers.new seen.new }
 {
     if let Cell::Node {
         symbol,
@@ -97,7 +97,7 @@ pub(crate) fn put_value<S: Sink, N: Names>(
     requires places { length cells.now ≤ length frames.old }
     requires tally { seen.old ≡ marked numbers.old }
     ensures tally { seen.new ≡ marked numbers.new }
-    ensures after { (us : List ℕ) (ρ : Valuation) → Numbered us numbers.old seen.old → Stands (N.Names.naming names.now) cells.now ρ → Puts S room holds result sink.old out.old sink.new out.new (written (ρ start) us) × MatchBool result (Numbered (through (note nat_eq) (ρ start) us) numbers.new seen.new) (Unit {0}) }
+    ensures after { (us : List ℕ) (ρ : Valuation) → Numbered us numbers.old seen.old → Stands (N.Names.naming names.now) cells.now ρ → Puts S S.room S.holds result sink.old out.old sink.new out.new (written (ρ start) us) × MatchBool result (Numbered (through (note nat_eq) (ρ start) us) numbers.new seen.new) (Unit {0}) }
 {
     let mut stack = Stack::over(frames);
     let mut at = start;

@@ -43,7 +43,7 @@ fn put_variable<S: Sink, N: Names>(
     requires places { length cells.now ≤ length frames.old }
     requires tally { seen.old ≡ marked numbers.old }
     ensures tally { seen.new ≡ marked numbers.new }
-    ensures after { (us : List ℕ) (ρ : Valuation) → Numbered us numbers.old seen.old → Stands (N.Names.naming names.now) cells.now ρ → Puts S room holds result sink.old out.old sink.new out.new (told_one line.now ρ variable us) × MatchBool result (Numbered (through (note nat_eq) (ρ variable.cell) us) numbers.new seen.new) (Unit {0}) }
+    ensures after { (us : List ℕ) (ρ : Valuation) → Numbered us numbers.old seen.old → Stands (N.Names.naming names.now) cells.now ρ → Puts S S.room S.holds result sink.old out.old sink.new out.new (told_one line.now ρ variable us) × MatchBool result (Numbered (through (note nat_eq) (ρ variable.cell) us) numbers.new seen.new) (Unit {0}) }
 {
     if !sink.put(out, b',') {
         return false;
@@ -77,7 +77,7 @@ fn put_variables<S: Sink, N: Names>(
     requires table { length numbers.old ≡ length cells.now }
     requires places { length cells.now ≤ length frames.old }
     requires tally { seen.old ≡ marked numbers.old }
-    ensures { (us : List ℕ) (ρ : Valuation) → Numbered us numbers.old seen.old → Stands (N.Names.naming names.now) cells.now ρ → Puts S room holds result sink.old out.old sink.new out.new (told line.now ρ variables.now us) }
+    ensures { (us : List ℕ) (ρ : Valuation) → Numbered us numbers.old seen.old → Stands (N.Names.naming names.now) cells.now ρ → Puts S S.room S.holds result sink.old out.old sink.new out.new (told line.now ρ variables.now us) }
 {
     for v in variables {
         if !put_variable(sink, out, names, cells, numbers, seen, frames, line, *v) {
@@ -105,7 +105,7 @@ fn put_answer<S: Sink, N: Names>(
     requires inside { InsideAll line.now cells.now variables.now }
     requires table { length numbers.old ≡ length cells.now }
     requires places { length cells.now ≤ length frames.old }
-    ensures { (ρ : Valuation) → Stands (N.Names.naming names.now) cells.now ρ → Puts S room holds result sink.old out.old sink.new out.new (told_all line.now ρ variables.now) }
+    ensures { (ρ : Valuation) → Stands (N.Names.naming names.now) cells.now ρ → Puts S S.room S.holds result sink.old out.old sink.new out.new (told_all line.now ρ variables.now) }
 {
     clear(numbers);
     let mut seen = 0;

@@ -9,14 +9,14 @@ returns-then-not-put g c =
     let i = c.loop-i.i in
     let lt : i < length name = omega arith in
     puts_then (drop i name) (sym (take-append-drop i name)) refl c.loop-i.invariant
-    (puts-stop (drop (i + 1) name) (drop_more name i 0 lt ∙ ap (λ b. b ∷ drop (i + 1) name) (sym c.name-byte.ensures)) refl c.if-not-put.ensures)
+    (puts-stop (drop (i + 1) name) (drop_more name i 0 lt ∙ ap (λ b. b ∷ drop (i + 1) name) (sym c.name_byte.ensures)) refl c.if-not-put.ensures)
 
 pub loop-i-preserved : goal.loop-i-preserved
 loop-i-preserved g c =
     let name = g.N.Names.naming c.args.names.now c.args.symbol in
     let i = c.loop-i.i in
     let lt : i < length name = omega arith in
-    puts_then (c.name-byte.result ∷ []) (take_more name i 0 lt ∙ ap (λ b. take i name ++ b ∷ []) (sym c.name-byte.ensures)) refl c.loop-i.invariant c.if-not-put.ensures
+    puts_then (c.name_byte.result ∷ []) (take_more name i 0 lt ∙ ap (λ b. take i name ++ b ∷ []) (sym c.name_byte.ensures)) refl c.loop-i.invariant c.if-not-put.ensures
 
 pub returns : goal.returns
 returns g c =

@@ -13,15 +13,15 @@ pub returns-then-arity-eq0 : goal.returns-then-arity-eq0
 returns-then-arity-eq0 g c =
     let name = g.N.Names.naming c.args.names.now c.args.symbol in
     puts_then (field (word_for name c.args.arity)) refl refl c.if-not-put.ensures
-    (puts-same (sym (field-alone name c.args.arity c.if-arity-eq0.true)) c.put-name.ensures)
+    (puts-same (sym (field-alone name c.args.arity c.if-arity-eq0.true)) c.put_name.ensures)
 
-pub returns-then-not-put-name : goal.returns-then-not-put-name
-returns-then-not-put-name g c =
+pub returns-then-not-put_name : goal.returns-then-not-put_name
+returns-then-not-put_name g c =
     let n = c.args.arity in
     let name = g.N.Names.naming c.args.names.now c.args.symbol in
     let some : 0 < n = omega arith in
     puts_then (field (word_for name n)) refl refl c.if-not-put.ensures
-    (puts-stop (47 ∷ (48 + n) ∷ []) (field-arity name n some) refl c.if-not-put-name.ensures)
+    (puts-stop (47 ∷ (48 + n) ∷ []) (field-arity name n some) refl c.if-not-put_name.ensures)
 
 pub returns-then-not-put-2 : goal.returns-then-not-put-2
 returns-then-not-put-2 g c =
@@ -29,7 +29,7 @@ returns-then-not-put-2 g c =
     let name = g.N.Names.naming c.args.names.now c.args.symbol in
     let some : 0 < n = omega arith in
     puts_then (field (word_for name n)) refl refl c.if-not-put.ensures
-    (puts_then (47 ∷ (48 + n) ∷ []) (field-arity name n some) refl c.if-not-put-name.ensures
+    (puts_then (47 ∷ (48 + n) ∷ []) (field-arity name n some) refl c.if-not-put_name.ensures
     (puts-stop ((48 + n) ∷ []) refl refl c.if-not-put-2.ensures))
 
 pub returns : goal.returns
@@ -38,5 +38,5 @@ returns g c =
     let name = g.N.Names.naming c.args.names.now c.args.symbol in
     let some : 0 < n = omega arith in
     puts_then (field (word_for name n)) refl refl c.if-not-put.ensures
-    (puts_then (47 ∷ (48 + n) ∷ []) (field-arity name n some) refl c.if-not-put-name.ensures
+    (puts_then (47 ∷ (48 + n) ∷ []) (field-arity name n some) refl c.if-not-put_name.ensures
     (puts_then ((48 + n) ∷ []) refl refl c.if-not-put-2.ensures c.put-3.ensures))

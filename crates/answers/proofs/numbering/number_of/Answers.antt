@@ -16,8 +16,8 @@ returns c =
       value = λ us h. fresh c.args.v us c.args.numbers.now c.args.seen.now c.requires.within h c.if-known-gt0.false;
     }
 
-pub overflow-add-next : goal.overflow-add-next
-overflow-add-next c =
+pub overflow_add-next : goal.overflow_add-next
+overflow_add-next c =
     let more = marked-set c.args.numbers.now c.args.v 1 c.requires.within c.if-known-gt0.false (omega arith) in
     let le = marked-le (set c.args.numbers.now c.args.v 1) in
     let h : c.args.seen.now + 1 ≤ length c.args.numbers.now = omega (arith, c.requires.tally, length-set c.args.numbers.now c.args.v 1) in

@@ -4,20 +4,20 @@ use Rattle.answers.proofs.NumberLaws.{marked-none, numbered-none}
 use Rattle.answers.proofs.TakeLaws.{puts-stop, puts_then}
 use Rattle.answers.proofs.writer.put_answer.Goals as goal
 
-pub returns-then-not-put-bytes : goal.returns-then-not-put-bytes
-returns-then-not-put-bytes g c = λ ρ st.
+pub returns-then-not-put_bytes : goal.returns-then-not-put_bytes
+returns-then-not-put_bytes g c = λ ρ st.
     let vs = c.args.variables.now in
-    puts-stop (decimal (length vs) ++ told c.args.line.now ρ vs []) refl refl c.if-not-put-bytes.ensures
+    puts-stop (decimal (length vs) ++ told c.args.line.now ρ vs []) refl refl c.if-not-put_bytes.ensures
 
-pub returns-then-not-put-decimal : goal.returns-then-not-put-decimal
-returns-then-not-put-decimal g c = λ ρ st.
+pub returns-then-not-put_decimal : goal.returns-then-not-put_decimal
+returns-then-not-put_decimal g c = λ ρ st.
     let vs = c.args.variables.now in
     let rest = told c.args.line.now ρ vs [] in
-    puts_then (decimal (length vs) ++ rest) refl refl c.if-not-put-bytes.ensures
-    (puts-stop rest refl refl c.if-not-put-decimal.ensures)
+    puts_then (decimal (length vs) ++ rest) refl refl c.if-not-put_bytes.ensures
+    (puts-stop rest refl refl c.if-not-put_decimal.ensures)
 
-pub put-variables-requires : goal.put-variables-requires
-put-variables-requires g c =
+pub put_variables-requires : goal.put_variables-requires
+put_variables-requires g c =
     record {
       sound = c.requires.sound;
       closed = c.requires.closed;
@@ -33,6 +33,6 @@ pub returns : goal.returns
 returns g c = λ ρ st.
     let vs = c.args.variables.now in
     let rest = told c.args.line.now ρ vs [] in
-    puts_then (decimal (length vs) ++ rest) refl refl c.if-not-put-bytes.ensures
-    (puts_then rest refl refl c.if-not-put-decimal.ensures
-    (c.put-variables.ensures [] ρ (numbered-none c.clear.new.numbers c.clear.ensures) st))
+    puts_then (decimal (length vs) ++ rest) refl refl c.if-not-put_bytes.ensures
+    (puts_then rest refl refl c.if-not-put_decimal.ensures
+    (c.put_variables.ensures [] ρ (numbered-none c.clear.new.numbers c.clear.ensures) st))

@@ -12,8 +12,8 @@ returns-then-not-put g c =
       after = λ us ρ n st. (puts-stop (name_of c.args.line.now v ++ written (ρ v.cell) us) refl refl c.if-not-put.ensures, tt);
     }
 
-pub returns-then-not-put-bytes : goal.returns-then-not-put-bytes
-returns-then-not-put-bytes g c =
+pub returns-then-not-put_bytes : goal.returns-then-not-put_bytes
+returns-then-not-put_bytes g c =
     let v = c.args.variable in
     let line = c.args.line.now in
     let len : v.len ≡ v.start + v.len - v.start = omega arith in
@@ -21,7 +21,7 @@ returns-then-not-put-bytes g c =
       tally = c.requires.tally;
       after = λ us ρ n st. (
         puts_then (name_of line v ++ written (ρ v.cell) us) refl refl c.if-not-put.ensures
-            (puts-stop (written (ρ v.cell) us) (ap (λ k. take k (drop v.start line) ++ written (ρ v.cell) us) len) refl c.if-not-put-bytes.ensures),
+            (puts-stop (written (ρ v.cell) us) (ap (λ k. take k (drop v.start line) ++ written (ρ v.cell) us) len) refl c.if-not-put_bytes.ensures),
         tt,
       );
     }
@@ -32,11 +32,11 @@ returns g c =
     let line = c.args.line.now in
     let len : v.len ≡ v.start + v.len - v.start = omega arith in
     record {
-      tally = c.put-value.ensures.tally;
+      tally = c.put_value.ensures.tally;
       after = λ us ρ n st.
-          let p = c.put-value.ensures.after us ρ n st in (
+          let p = c.put_value.ensures.after us ρ n st in (
             puts_then (name_of line v ++ written (ρ v.cell) us) refl refl c.if-not-put.ensures
-                (puts_then (written (ρ v.cell) us) (ap (λ k. take k (drop v.start line) ++ written (ρ v.cell) us) len) refl c.if-not-put-bytes.ensures p.0),
+                (puts_then (written (ρ v.cell) us) (ap (λ k. take k (drop v.start line) ++ written (ρ v.cell) us) len) refl c.if-not-put_bytes.ensures p.0),
             p.1,
           );
     }

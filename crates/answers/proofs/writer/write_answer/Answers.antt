@@ -9,30 +9,30 @@ use Rattle.answers.proofs.LineLaws.{stands-so, shows-line}
 use Rattle.answers.proofs.SinkLaws.{count-refused, count-taken, write-all}
 use Rattle.answers.proofs.writer.write_answer.Goals as goal
 
-pub returns-then-not-put-answer : goal.returns-then-not-put-answer
-returns-then-not-put-answer g c =
+pub returns-then-not-put_answer : goal.returns-then-not-put_answer
+returns-then-not-put_answer g c =
     let H = c.args.cells.now in
     let names = g.N.Names.naming c.args.names.now in
     let buffer = c.args.buffer.now in
     let s = c.requires.sound in
     let ρ = stands names H s in
-    let first = count-refused buffer (told_all c.args.line.now ρ c.args.variables.now) _ _ (c.if-not-put-answer.ensures ρ (stands-so names H s)) in
+    let first = count-refused buffer (told_all c.args.line.now ρ c.args.variables.now) _ _ (c.if-not-put_answer.ensures ρ (stands-so names H s)) in
     let is = shows-line names H s c.args.line.now c.args.variables.now in
     record {
       value = λ q θ sh. fits_not (answer_line q θ) (length buffer) (omega (arith, first.0, ap length (is q θ sh)));
       after = λ q θ sh. first.1 ∙ filled-not (answer_line q θ) buffer (omega (arith, first.0, ap length (is q θ sh)));
     }
 
-pub put-answer-requires-2 : goal.put-answer-requires-2
-put-answer-requires-2 g c =
+pub put_answer-requires-2 : goal.put_answer-requires-2
+put_answer-requires-2 g c =
     record {
       sound = c.requires.sound;
       closed = c.requires.closed;
       digits = c.requires.digits;
       small = c.requires.small;
       inside = c.requires.inside;
-      table = c.put-answer.auto.numbers ∙ length-take-le (length c.args.cells.now) c.args.numbers.now c.requires.table;
-      places = omega (arith, c.put-answer.auto.frames, c.requires.places);
+      table = c.put_answer.auto.numbers ∙ length-take-le (length c.args.cells.now) c.args.numbers.now c.requires.table;
+      places = omega (arith, c.put_answer.auto.frames, c.requires.places);
     }
 
 pub returns : goal.returns
@@ -43,8 +43,8 @@ returns g c =
     let s = c.requires.sound in
     let ρ = stands names H s in
     let text = told_all c.args.line.now ρ c.args.variables.now in
-    let first = count-taken buffer text _ _ (c.if-not-put-answer.ensures ρ (stands-so names H s)) in
-    let second = write-all buffer text c.put-answer-2.result c.put-answer-2.new.sink _ _ first.1 first.0 (c.put-answer-2.ensures ρ (stands-so names H s)) in
+    let first = count-taken buffer text _ _ (c.if-not-put_answer.ensures ρ (stands-so names H s)) in
+    let second = write-all buffer text c.put_answer-2.result c.put_answer-2.new.sink _ _ first.1 first.0 (c.put_answer-2.ensures ρ (stands-so names H s)) in
     let is = shows-line names H s c.args.line.now c.args.variables.now in
     record {
       value = λ q θ sh. fits_all (answer_line q θ) (length buffer) _ (second.0 ∙ ap length (is q θ sh)) (omega (arith, first.0, second.0));

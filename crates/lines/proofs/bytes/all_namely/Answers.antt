@@ -3,11 +3,11 @@ use Rattle.lines.specs.Words.{namely}
 use Rattle.lines.proofs.Runs.{every-step, every-stop, every-end}
 use Rattle.lines.proofs.bytes.all_namely.Goals as goal
 
-pub returns-then-not-is-namely : goal.returns-then-not-is-namely
-returns-then-not-is-namely c = sym (every-stop namely c.args.bytes.now c.loop-b.b-index (search rules) (sym c.if-not-is-namely.ensures)) ∙ c.loop-b.invariant
+pub returns-then-not-is_namely : goal.returns-then-not-is_namely
+returns-then-not-is_namely c = sym (every-stop namely c.args.bytes.now c.loop-b.b-index (search rules) (sym c.if-not-is_namely.ensures)) ∙ c.loop-b.invariant
 
 pub loop-b-preserved : goal.loop-b-preserved
-loop-b-preserved c = sym (every-step namely c.args.bytes.now c.loop-b.b-index (search rules) (sym c.if-not-is-namely.ensures)) ∙ c.loop-b.invariant
+loop-b-preserved c = sym (every-step namely c.args.bytes.now c.loop-b.b-index (search rules) (sym c.if-not-is_namely.ensures)) ∙ c.loop-b.invariant
 
 pub returns : goal.returns
 returns c = sym (every-end namely c.args.bytes.now c.loop-b.b-index (search rules)) ∙ c.loop-b.invariant

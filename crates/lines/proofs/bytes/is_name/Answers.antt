@@ -4,4 +4,4 @@ use Rattle.lines.proofs.Runs.{name-is}
 use Rattle.lines.proofs.bytes.is_name.Goals as goal
 
 pub returns : goal.returns
-returns c = let some : 0 < length c.args.bytes.now = search rules in let e = name-is c.args.bytes.now some in let r = c.all-namely.ensures in grind (arith, nat_tests)
+returns c = let some : 0 < length c.args.bytes.now = search rules in let e = name-is c.args.bytes.now some in let r = c.all_namely.ensures in grind (arith, nat_tests)

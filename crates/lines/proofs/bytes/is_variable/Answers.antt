@@ -4,4 +4,4 @@ use Rattle.lines.proofs.Runs.{variable-is}
 use Rattle.lines.proofs.bytes.is_variable.Goals as goal
 
 pub returns : goal.returns
-returns c = let some : 0 < length c.args.bytes.now = search rules in let e = variable-is c.args.bytes.now some in let i = c.if-not-is-initial.ensures in let r = c.all-plain.ensures in grind (arith, nat_tests)
+returns c = let some : 0 < length c.args.bytes.now = search rules in let e = variable-is c.args.bytes.now some in let i = c.if-not-is_initial.ensures in let r = c.all_plain.ensures in grind (arith, nat_tests)

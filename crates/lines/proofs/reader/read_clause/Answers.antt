@@ -9,6 +9,6 @@ returns c =
     let is = said-clause c.read.result line c.read.ensures.value in
     record {
       value = is;
-      one-reading = subst (OneReading (SpellsClause line)) (sym is) (one-clause line);
+      one_reading = subst (OneReading (SpellsClause line)) (sym is) (one-clause line);
       counted = c.read.ensures.counted;
     }

@@ -9,6 +9,6 @@ returns c =
     let is = said-query c.read.result line c.read.ensures.value in
     record {
       value = is;
-      one-reading = subst (OneReading (SpellsQuery line)) (sym is) (one-query line);
+      one_reading = subst (OneReading (SpellsQuery line)) (sym is) (one-query line);
       counted = c.read.ensures.counted;
     }

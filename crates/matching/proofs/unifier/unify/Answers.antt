@@ -11,9 +11,9 @@ pub loop-pair-init : goal.loop-pair-init
 loop-pair-init c =
     let new = c.over-stack.result in
     let none : take new.len new.items.now ≡ [] = nil_from_length _ (length-take-le new.len new.items.now new.ok ∙ c.over-stack.ensures.empty) in
-    let room : new.len < length new.items.now = omega (arith, c.over-stack.ensures.empty, c.over-stack.ensures.room, c.requires.pairs-room) in
+    let room : new.len < length new.items.now = omega (arith, c.over-stack.ensures.empty, c.over-stack.ensures.room, c.requires.pairs_room) in
     let p = pushed _ _ c.push.result new.len (length new.items.now) c.push.ensures.value room c.push.ensures.cases in (
-      unifying-none c.args.cells.now c.args.a c.args.b _ c.requires.sound c.requires.closed c.requires.a-within c.requires.b-within
+      unifying-none c.args.cells.now c.args.a c.args.b _ c.requires.sound c.requires.closed c.requires.a_within c.requires.b_within
           (p.1 ∙ ap (λ x. x ++ pair c.args.a c.args.b ∷ []) none),
       kept-none _ _,
       refl,
@@ -40,10 +40,10 @@ join-requires c =
       sound = u.sound;
       closed = u.closed;
       small = omega (arith, c.loop-pair.auto.cells, c.requires.small);
-      i-within = c.root-i.ensures.within;
-      j-within = c.root-j.ensures.within;
-      i-root = c.root-i.ensures.rooted;
-      j-root = c.root-j.ensures.rooted;
+      i_within = c.root-i.ensures.within;
+      j_within = c.root-j.ensures.within;
+      i_root = c.root-i.ensures.rooted;
+      j_root = c.root-j.ensures.rooted;
       other = c.if-i-j.true;
       room = omega (
         arith,
@@ -52,8 +52,8 @@ join-requires c =
         length-take-le trail.len trail.items (omega (arith, trail.long, trail.within)),
         length-take-le first.len first.items (omega (arith, first.long, first.within)),
       );
-      visits-room = omega (arith, c.loop-pair.auto.visits, c.requires.visits-room);
-      pairs-room = omega (
+      visits_room = omega (arith, c.loop-pair.auto.visits, c.requires.visits_room);
+      pairs_room = omega (
         arith,
         fewer-pairs _ c.in-Some.pair c.root-i.result c.root-j.result c.in-Some.ensures.cases.1 u c.root-i.ensures c.root-j.ensures,
         length-take-le rest.len rest.items.now rest.ok,
@@ -61,7 +61,7 @@ join-requires c =
         c.loop-pair.invariant.2,
         c.push.ensures.room,
         c.over-stack.ensures.room,
-        c.requires.pairs-room,
+        c.requires.pairs_room,
       );
     }
 
@@ -107,5 +107,5 @@ returns c =
       sound = u.sound;
       closed = u.closed;
       kept = c.loop-pair.invariant.1;
-      result = unifying-all (length-take-le stack.len stack.items.now stack.ok ∙ c.in-default.ensures.cases.0) u;
+      result = unifying-all (length-take-le stack.len stack.items.now stack.ok ∙ c.in_default.ensures.cases.0) u;
     }

@@ -4,4 +4,4 @@ use Rattle.lines.proofs.Runs.{after-cut}
 use Rattle.lines.proofs.fields.Fields.of.Goals as goal
 
 pub returns : goal.returns
-returns c = ap words_of (after-cut c.args.line.now c.run-len-n.result c.run-len-n.ensures.value)
+returns c = ap words_of (after-cut c.args.line.now c.run_len-n.result c.run_len-n.ensures.value)
