@@ -9,7 +9,7 @@ use Rattle.image.proofs.checker.check.Goals as goal
 pub returns : goal.returns
 returns c =
     let ws = c.args.words.now in
-    let r = c.check-words.result in
-    let e = c.check-words.ensures in
-    let fit : Fit ws = All-from_get_or (λ w. w < 2 ^ 32) ws 0 (λ i h. (c.type-inv.words i).fits) in
-    record { value = e; one-image = one-image (said r) ws fit e; symbols = symbols-distinct r ws fit e; clauses = clauses-runnable r ws fit e }
+    let r = c.check_words.result in
+    let e = c.check_words.ensures in
+    let fit : Fit ws = All-from_get_or (λ w. w < 2 ^ 32) ws 0 (λ i h. (c.type_inv.words i).fits) in
+    record { value = e; one_image = one-image (said r) ws fit e; symbols = symbols-distinct r ws fit e; clauses = clauses-runnable r ws fit e }

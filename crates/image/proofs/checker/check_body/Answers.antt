@@ -6,28 +6,28 @@ use Rattle.image.proofs.SymbolLaws.{after-length}
 use Rattle.image.proofs.CheckLaws.{low-arities, alone, body-done}
 use Rattle.image.proofs.checker.check_body.Goals as goal
 
-pub overflow-sub-count : goal.overflow-sub-count
-overflow-sub-count c =
+pub overflow_sub-count : goal.overflow_sub-count
+overflow_sub-count c =
     let ws = c.args.words.now in
-    let l : length c.in-ok-left.left.now ≡ length (after_symbols c.args.symbols ws) = ap length c.in-ok-left.ensures.rest in
+    let l : length c.in_ok-left.left.now ≡ length (after_symbols c.args.symbols ws) = ap length c.in_ok-left.ensures.rest in
     omega (arith, after-length c.args.symbols ws)
 
-pub check-layout-requires : goal.check-layout-requires
-check-layout-requires c =
+pub check_layout-requires : goal.check_layout-requires
+check_layout-requires c =
     let ws = c.args.words.now in
     let s = c.args.symbols in
-    let left = c.in-ok-left.left.now in
+    let left = c.in_ok-left.left.now in
     let z : s - 0 ≡ s = omega arith in
-    let e : take (s - 0) c.check-symbols.new.arities ≡ map arity (symbols_of s ws) = ap (λ n. take n c.check-symbols.new.arities) z ∙ c.in-ok-left.ensures.arities in
+    let e : take (s - 0) c.check_symbols.new.arities ≡ map arity (symbols_of s ws) = ap (λ n. take n c.check_symbols.new.arities) z ∙ c.in_ok-left.ensures.arities in
     record {
       few = c.requires.few;
       small = c.requires.small;
-      arities = e ∙ ap (map arity) (sym (alone s (length ws - length left) ws left c.in-ok-left.ensures.rest refl));
-      low = subst (λ (l : List ℕ). every (λ a. leb a 8) l ≡ true) (sym e) (low-arities (symbols_of s ws) c.in-ok-left.ensures.fault);
+      arities = e ∙ ap (map arity) (sym (alone s (length ws - length left) ws left c.in_ok-left.ensures.rest refl));
+      low = subst (λ (l : List ℕ). every (λ a. leb a 8) l ≡ true) (sym e) (low-arities (symbols_of s ws) c.in_ok-left.ensures.fault);
     }
 
 pub returns : goal.returns
 returns c =
     let ws = c.args.words.now in
-    let left = c.in-ok-left.left.now in
-    body-done c.args.symbols c.args.clauses c.args.size (length ws - length left) ws left (said c.check-layout.result) c.in-ok-left.ensures.rest refl c.in-ok-left.ensures.fault c.check-layout.ensures
+    let left = c.in_ok-left.left.now in
+    body-done c.args.symbols c.args.clauses c.args.size (length ws - length left) ws left (said c.check_layout.result) c.in_ok-left.ensures.rest refl c.in_ok-left.ensures.fault c.check_layout.ensures

@@ -6,4 +6,4 @@ pub returns : goal.returns
 returns c =
     let xs = c.args.words.now in
     let h : 4 ≤ length xs = search rules in
-    c.check-body.ensures ∙ checked-body xs h (sym c.if-not-is-header.ensures)
+    c.check_body.ensures ∙ checked-body xs h (sym c.if-not-is_header.ensures)

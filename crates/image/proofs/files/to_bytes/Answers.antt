@@ -8,11 +8,11 @@ pub loop-w-preserved : goal.loop-w-preserved
 loop-w-preserved c =
     let ws = c.args.words.now in
     let i = c.loop-w.w-index in
-    let items = c.in-ok-extend-from-slice.ensures.items in
-    ap (λ l. l ++ bytes_of (drop (i + 1) ws)) (items ∙ ap (λ b. vec_items c.loop-w.out ++ b) c.to-le-bytes-bytes.ensures) ∙ bytes-more _ ws i c.loop-w-test.true ∙ c.loop-w.invariant
+    let items = c.in_ok-extend_from_slice.ensures.items in
+    ap (λ l. l ++ bytes_of (drop (i + 1) ws)) (items ∙ ap (λ b. vec_items c.loop-w.out ++ b) c.to_le_bytes-bytes.ensures) ∙ bytes-more _ ws i c.loop-w-test.true ∙ c.loop-w.invariant
 
 pub returns : goal.returns
 returns c =
     let ws = c.args.words.now in
     let e = sym (bytes-done _ ws _ c.loop-w-test.false) ∙ c.loop-w.invariant in
-    record { value = e; back = ap words_of e ∙ read_back ws (All-from_get_or (λ w. w < 2 ^ 32) ws 0 (λ i h. (c.type-inv.words i).fits)) }
+    record { value = e; back = ap words_of e ∙ read_back ws (All-from_get_or (λ w. w < 2 ^ 32) ws 0 (λ i h. (c.type_inv.words i).fits)) }

@@ -9,5 +9,5 @@ returns-then-count-eq0 c = put-no-terms body_text refl c.args.count (words_left 
 
 pub returns : goal.returns
 returns c =
-    put_goals c.args.count (words_left c.args.tokens) (vec_items c.args.out.now) (vec_items c.extend-from-slice.new.self) _
-    c.if-count-eq0.false c.in-ok-extend-from-slice.ensures.items c.in-ok-put-list.ensures
+    put_goals c.args.count (words_left c.args.tokens) (vec_items c.args.out.now) (vec_items c.extend_from_slice.new.self) _
+    c.if-count-eq0.false c.in_ok-extend_from_slice.ensures.items c.in_ok-put_list.ensures

@@ -9,5 +9,5 @@ returns-then-count-eq0 c = put-no-terms listed refl c.args.count (words_left c.a
 
 pub returns : goal.returns
 returns c =
-    put-listed c.args.count (words_left c.args.tokens) _ _ (vec_items c.args.out.now) (vec_items c.put-term.new.out) _
-    c.if-count-eq0.false c.in-ok-others.ensures.text c.in-ok-put-others.ensures.text
+    put-listed c.args.count (words_left c.args.tokens) _ _ (vec_items c.args.out.now) (vec_items c.put_term.new.out) _
+    c.if-count-eq0.false c.in_ok-others.ensures.text c.in_ok-put_others.ensures.text

@@ -4,5 +4,5 @@ use Rattle.prolog.proofs.refusals.put_refused.Goals as goal
 
 pub returns : goal.returns
 returns c =
-    put-comment (vec_items c.args.out.now) (vec_items c.extend-from-slice.new.self) (vec_items c.put-number.new.out) (vec_items c.extend-from-slice-2.new.self) _ c.args.number c.args.refusal
-    c.in-ok-extend-from-slice.ensures.items c.in-ok-put-number.ensures c.in-ok-extend-from-slice-2.ensures.items c.in-ok-put-refusal.ensures
+    put-comment (vec_items c.args.out.now) (vec_items c.extend_from_slice.new.self) (vec_items c.put_number.new.out) (vec_items c.extend_from_slice-2.new.self) _ c.args.number c.args.refusal
+    c.in_ok-extend_from_slice.ensures.items c.in_ok-put_number.ensures c.in_ok-extend_from_slice-2.ensures.items c.in_ok-put_refusal.ensures

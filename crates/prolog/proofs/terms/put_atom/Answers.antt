@@ -4,5 +4,5 @@ use Rattle.prolog.proofs.terms.put_atom.Goals as goal
 
 pub returns : goal.returns
 returns c =
-    put-quoted (vec_items c.args.out.now) _ _ _ c.args.name.now (sym c.if-all-plain.ensures)
-    c.in-ok-push.ensures.items c.in-ok-extend-from-slice.ensures.items c.in-ok-push-2.ensures.items
+    put-quoted (vec_items c.args.out.now) _ _ _ c.args.name.now (sym c.if-all_plain.ensures)
+    c.in_ok-push.ensures.items c.in_ok-extend_from_slice.ensures.items c.in_ok-push-2.ensures.items

@@ -10,33 +10,33 @@ use Rattle.symbols.proofs.noting.note_symbols.Goals as goal
 pub loop-token-init : goal.loop-token-init
 loop-token-init c = (refl, c.requires.fine, begins-self _, λ h. h)
 
-pub note-token-requires : goal.note-token-requires
-note-token-requires c = record { limit = c.requires.limit; fine = (subst Fines c.in-Some.ensures.value c.loop-token.invariant.1).0 }
+pub note_token-requires : goal.note_token-requires
+note_token-requires c = record { limit = c.requires.limit; fine = (subst Fines c.in-Some.ensures.value c.loop-token.invariant.1).0 }
 
-pub returns-then-not-note-token : goal.returns-then-not-note-token
-returns-then-not-note-token c =
-    let f = c.note-token.ensures.full c.if-not-note-token.true in
+pub returns-then-not-note_token : goal.returns-then-not-note_token
+returns-then-not-note_token c =
+    let f = c.note_token.ensures.full c.if-not-note_token.true in
     record {
       noted = λ e. (let z : ◌≡◌ {A = ℕ} 0 1 = cc in absurd (omega arith));
       full = λ e.
-          (let all = full-words (signature c.loop-token.symbols) (word c.in-Some.token) (words_left c.next-token.new.self) c.args.limit f.0 in
+          (let all = full-words (signature c.loop-token.symbols) (word c.in-Some.token) (words_left c.next_token.new.self) c.args.limit f.0 in
           omega (arith, ap length (sym (ap (note_words (signature c.loop-token.symbols)) c.in-Some.ensures.value) ∙ c.loop-token.invariant.0)));
       begins = subst (Begins (signature c.args.symbols.now)) (sym f.1) c.loop-token.invariant.2;
-      within = λ h. c.note-token.ensures.within (c.loop-token.invariant.3 h);
+      within = λ h. c.note_token.ensures.within (c.loop-token.invariant.3 h);
     }
 
 pub loop-token-preserved : goal.loop-token-preserved
 loop-token-preserved c =
-    let n = c.note-token.ensures.noted c.if-not-note-token.false in (
-      ap (λ s. note_words s (words_left c.next-token.new.self)) n ∙ sym (ap (note_words (signature c.loop-token.symbols)) c.in-Some.ensures.value) ∙ c.loop-token.invariant.0,
+    let n = c.note_token.ensures.noted c.if-not-note_token.false in (
+      ap (λ s. note_words s (words_left c.next_token.new.self)) n ∙ sym (ap (note_words (signature c.loop-token.symbols)) c.in-Some.ensures.value) ∙ c.loop-token.invariant.0,
       (subst Fines c.in-Some.ensures.value c.loop-token.invariant.1).1,
       subst (Begins (signature c.args.symbols.now)) (sym n) (begins-then c.loop-token.invariant.2 (word-begins (signature c.loop-token.symbols) (word c.in-Some.token))),
-      λ h. c.note-token.ensures.within (c.loop-token.invariant.3 h),
+      λ h. c.note_token.ensures.within (c.loop-token.invariant.3 h),
     )
 
 pub returns : goal.returns
 returns c = record {
-  noted = λ e. ap (note_words (signature c.loop-token.symbols)) (sym c.in-default.ensures.value) ∙ c.loop-token.invariant.0;
+  noted = λ e. ap (note_words (signature c.loop-token.symbols)) (sym c.in_default.ensures.value) ∙ c.loop-token.invariant.0;
   full = λ e. (let z : ◌≡◌ {A = ℕ} 0 1 = cc in absurd (omega arith));
   begins = c.loop-token.invariant.2;
   within = c.loop-token.invariant.3;

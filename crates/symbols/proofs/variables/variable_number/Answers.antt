@@ -12,7 +12,7 @@ returns-in-Some c = record {
 
 pub returns : goal.returns
 returns c = record {
-  number = λ V e. c.len-k.ensures.value ∙ (known-none (signature c.args.variables.now) c.args.name.now V e c.in-default.ensures).0;
-  noted = λ V e. c.add.ensures ∙ (known-none (signature c.args.variables.now) c.args.name.now V e c.in-default.ensures).1;
+  number = λ V e. c.len-k.ensures.value ∙ (known-none (signature c.args.variables.now) c.args.name.now V e c.in_default.ensures).0;
+  noted = λ V e. c.add.ensures ∙ (known-none (signature c.args.variables.now) c.args.name.now V e c.in_default.ensures).1;
   more = omega (arith, ap length c.add.ensures, length-append (signature c.args.variables.now) (record { name = c.args.name.now; arity = 0 } ∷ []));
 }

@@ -3,8 +3,8 @@ use Rattle.heap.specs.Heaps.{Sound, Closed}
 use Rattle.cells.proofs.Seals.{unsealed}
 use Rattle.cells.proofs.store.Store.cells.Goals as goal
 
-pub in-use-requires : goal.in-use-requires
-in-use-requires c =
+pub in_use-requires : goal.in_use-requires
+in_use-requires c =
     let s = c.args.self.now in
     let sane = unsealed s.cells s.top s.trail s.sane in
     omega (arith, sane.within, sane.long)
@@ -13,7 +13,7 @@ pub returns : goal.returns
 returns c =
     let s = c.args.self.now in
     let sane = unsealed s.cells s.top s.trail s.sane in
-    let is = c.in-use.ensures in
+    let is = c.in_use.ensures in
     let long = length-take-le s.top s.cells (omega (arith, sane.within, sane.long)) in
     record {
       value = is;

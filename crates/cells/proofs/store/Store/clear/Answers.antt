@@ -7,4 +7,4 @@ empty-requires c =
     (unsealed s.cells s.top s.trail s.sane).long
 
 pub invariant_of-self : goal.invariant_of-self
-invariant_of-self c = (∣ c.empty.ensures.sane ∣₁, tt)
+invariant_of-self c = record { sane = ∣ c.empty.ensures.sane ∣₁ }

@@ -7,8 +7,8 @@ use Rattle.cells.proofs.GrowthLaws.{grew_none, grew-structured}
 use Rattle.cells.proofs.StructureLaws.{refs-length, refs-spare, refs-more, structure-value, structure-cells}
 use Rattle.cells.proofs.store.Store.push_structure.Goals as goal
 
-pub push-ref-requires : goal.push-ref-requires
-push-ref-requires c =
+pub push_ref-requires : goal.push_ref-requires
+push_ref-requires c =
     let part : c.loop-x.x-index ≤ length c.args.args.now = omega arith in
     omega (arith, c.requires c.loop-x.x-index (omega arith), refs-length (cells_of c.args.self.now) (cells_of c.loop-x.self) c.args.args.now c.loop-x.x-index c.loop-x.invariant.0 part)
 
@@ -18,12 +18,12 @@ loop-x-preserved c =
     let less : c.loop-x.x-index < length c.args.args.now = omega arith in
     let room : length c.args.args.now < 4224 - length (cells_of c.args.self.now) = omega (arith, c.if-args-first.false, c.top-first.ensures.value) in (
       refs-more (cells_of c.args.self.now) (cells_of c.loop-x.self) c.args.args.now c.loop-x.x-index c.loop-x.invariant.0 part
-          (cells_of c.push-ref.new.self) less room c.push-ref.ensures.cells,
-      c.push-ref.ensures.trail ∙ c.loop-x.invariant.1,
+          (cells_of c.push_ref.new.self) less room c.push_ref.ensures.cells,
+      c.push_ref.ensures.trail ∙ c.loop-x.invariant.1,
     )
 
-pub push-node-requires : goal.push-node-requires
-push-node-requires c =
+pub push_node-requires : goal.push_node-requires
+push_node-requires c =
     let s = c.args.self.now in
     let fine = fine-used s.cells s.top s.trail (unsealed s.cells s.top s.trail s.sane) in
     let part : c.loop-x.x-index ≤ length c.args.args.now = omega arith in
@@ -40,11 +40,11 @@ returns c =
     let all : length c.args.args.now ≤ c.loop-x.x-index = omega arith in
     let room : length c.args.args.now < 4224 - length (cells_of c.args.self.now) = omega (arith, c.if-args-first.false, c.top-first.ensures.value) in
     let made = structure-cells (cells_of c.args.self.now) (cells_of c.loop-x.self) c.args.args.now c.loop-x.x-index c.loop-x.invariant.0 part all room
-    (cells_of c.push-node.new.self) c.args.symbol c.top-first.result c.top-first.ensures.value c.push-node.ensures.cells in
-    let same = c.push-node.ensures.trail ∙ c.loop-x.invariant.1 in
+    (cells_of c.push_node.new.self) c.args.symbol c.top-first.result c.top-first.ensures.value c.push_node.ensures.cells in
+    let same = c.push_node.ensures.trail ∙ c.loop-x.invariant.1 in
     record {
       value = structure-value (cells_of c.args.self.now) (cells_of c.loop-x.self) c.args.args.now c.loop-x.x-index c.loop-x.invariant.0 part all room
-          c.push-node.result c.push-node.ensures.value;
+          c.push_node.result c.push_node.ensures.value;
       cells = made;
       trail = same;
       grew = grew-structured c.args.symbol c.args.args.now made same;

@@ -11,14 +11,14 @@ unite-requires c =
     let long = used-length s.cells s.top s.trail sane in
     record {
       sane = sane;
-      a-within = omega (arith, c.requires.a-within, long);
-      b-within = omega (arith, c.requires.b-within, long);
-      visits-room = search rules;
-      pairs-room = search rules;
+      a_within = omega (arith, c.requires.a_within, long);
+      b_within = omega (arith, c.requires.b_within, long);
+      visits_room = search rules;
+      pairs_room = search rules;
     }
 
 pub invariant_of-self : goal.invariant_of-self
-invariant_of-self c = (∣ c.unite.ensures.sane ∣₁, tt)
+invariant_of-self c = record { sane = ∣ c.unite.ensures.sane ∣₁ }
 
 pub returns : goal.returns
 returns c = record { kept = c.unite.ensures.kept; grew = grew-kept c.unite.ensures.kept; result = c.unite.ensures.result }

@@ -4,21 +4,21 @@ use Rattle.image.proofs.SymbolLaws.{left_is}
 use Rattle.image.proofs.NextLaws.{sized, next-is}
 use Rattle.image.proofs.symbols.Symbols.next_symbol.Goals as goal
 
-pub name-bytes-name-requires : goal.name-bytes-name-requires
-name-bytes-name-requires c =
-    let s = sized c.first-symbol-words.result.now (sym c.if-not-is-proper.ensures) in
+pub name_bytes-name-requires : goal.name_bytes-name-requires
+name_bytes-name-requires c =
+    let s = sized c.first_symbol-words.result.now (sym c.if-not-is_proper.ensures) in
     omega (arith, s.words, s.size)
 
 pub invariant_of-result : goal.invariant_of-result
 invariant_of-result c =
-    let s = sized c.first-symbol-words.result.now (sym c.if-not-is-proper.ensures) in
-    (omega (arith, s.size), tt)
+    let s = sized c.first_symbol-words.result.now (sym c.if-not-is_proper.ensures) in
+    record { within = omega (arith, s.size) }
 
 pub returns : goal.returns
 returns c =
-    let x = c.first-symbol-words.result.now in
-    let s = sized x (sym c.if-not-is-proper.ensures) in
+    let x = c.first_symbol-words.result.now in
+    let s = sized x (sym c.if-not-is_proper.ensures) in
     record {
-      value = next-is x c.name-bytes-name.result c.arity-in-arity.result s c.name-bytes-name.ensures c.arity-in-arity.ensures ∙ ap symbol_of c.first-symbol-words.ensures.value;
-      after = left_is c.args.self.now.words.now x c.first-symbol-words.ensures.value;
+      value = next-is x c.name_bytes-name.result c.arity_in-arity.result s c.name_bytes-name.ensures c.arity_in-arity.ensures ∙ ap symbol_of c.first_symbol-words.ensures.value;
+      after = left_is c.args.self.now.words.now x c.first_symbol-words.ensures.value;
     }

@@ -6,4 +6,4 @@ pub returns-then-i-self : goal.returns-then-i-self
 returns-then-i-self c = nth-none c.args.self.rows.now c.args.i (omega arith)
 
 pub returns : goal.returns
-returns c = ap Some c.row-at.ensures ∙ nth-some c.args.self.rows.now c.args.i (omega arith)
+returns c = ap Some c.row_at.ensures ∙ nth-some c.args.self.rows.now c.args.i (omega arith)

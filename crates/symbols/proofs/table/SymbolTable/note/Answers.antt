@@ -15,7 +15,7 @@ pub returns-then-self-limit : goal.returns-then-self-limit
 returns-then-self-limit c = record {
   noted = λ e. (let z : ◌≡◌ {A = ℕ} 0 1 = cc in absurd (omega arith));
   full = λ e. (
-    omega (arith, ap length (note-new (signature c.args.self.now) c.args.name.now c.args.arity c.in-default.ensures), length-append (signature c.args.self.now) (record { name = c.args.name.now; arity = c.args.arity } ∷ []), signature-long c.args.self.now, c.if-self-limit.true),
+    omega (arith, ap length (note-new (signature c.args.self.now) c.args.name.now c.args.arity c.in_default.ensures), length-append (signature c.args.self.now) (record { name = c.args.name.now; arity = c.args.arity } ∷ []), signature-long c.args.self.now, c.if-self-limit.true),
     refl,
   );
   within = λ h. h;
@@ -30,7 +30,7 @@ add-requires c = record {
 
 pub returns : goal.returns
 returns c = record {
-  noted = λ e. c.add.ensures ∙ note-new (signature c.args.self.now) c.args.name.now c.args.arity c.in-default.ensures;
+  noted = λ e. c.add.ensures ∙ note-new (signature c.args.self.now) c.args.name.now c.args.arity c.in_default.ensures;
   full = λ e. (let z : ◌≡◌ {A = ℕ} 0 1 = cc in absurd (omega arith));
   within = λ h. omega (arith, ap length c.add.ensures, length-append (signature c.args.self.now) (record { name = c.args.name.now; arity = c.args.arity } ∷ []), signature-long c.args.self.now, c.if-self-limit.false);
 }

@@ -5,7 +5,7 @@ use Rattle.symbols.proofs.NameLaws.{up_to-take}
 use Rattle.symbols.proofs.table.SymbolTable.truncate.Goals as goal
 
 pub invariant_of-self : goal.invariant_of-self
-invariant_of-self c = (omega (arith, c.requires, signature-long c.args.self.now, c.args.self.now.few), (c.args.self.now.short, (c.args.self.now.small, tt)))
+invariant_of-self c = record { few = omega (arith, c.requires, signature-long c.args.self.now, c.args.self.now.few); short = c.args.self.now.short; small = c.args.self.now.small }
 
 pub returns : goal.returns
 returns c = sym (up_to-take c.args.len c.args.self.now.len (symbol_in c.args.self.now) (omega (arith, c.requires, signature-long c.args.self.now)))
