@@ -38,8 +38,8 @@ loop-i-preserved c =
       omega arith,
     )
 
-pub write-row-last-requires : goal.write-row-last-requires
-write-row-last-requires c =
+pub write_row-last-requires : goal.write_row-last-requires
+write_row-last-requires c =
     let here : c.loop-i.i ≡ c.args.from = omega arith in
     record {
       ready = subst (λ n. Ready c.args.flat.now n) (sym c.loop-i.auto.filled) c.requires.ready;
@@ -63,11 +63,11 @@ push-requires c =
       c.loop-i.invariant.0.count _ (subst (λ x. Run (laid c.args.flat.now).after (laid c.args.flat.now).size (arity_at (signature c.args.flat.now.symbols.now) c.args.p) x c.args.end) (sym here) c.requires.run),
       ap (before (laid c.args.flat.now)) here,
       c.loop-i.invariant.1.counted,
-      c.write-row-last.ensures.onto.counted,
+      c.write_row-last.ensures.onto.counted,
       c.requires.room,
       c.arity.ensures.value,
       c.loop-i.auto.out,
-      c.write-row-last.auto.out,
+      c.write_row-last.auto.out,
     )
 
 pub returns : goal.returns
@@ -78,7 +78,7 @@ returns c =
     let same = ap (before (laid c.args.flat.now)) here in
     record {
       goal = goal-end c.requires.ready.ends c.requires.ready.apart c.args.p c.args.from c.loop-i.i c.args.end _ _ _ _ _ _ _ _ _ here within c.loop-i.invariant.0 c.arity.ensures.value
-          c.requires.run c.write-row-last.ensures.rowed refl c.push.ensures.longer c.push.ensures.exact c.requires.known;
-      onto = onto-then _ _ _ _ _ _ _ _ _ c.loop-i.invariant.1 (onto-then _ _ _ _ _ _ _ _ _ c.write-row-last.ensures.onto c.push.ensures.onto refl)
+          c.requires.run c.write_row-last.ensures.rowed refl c.push.ensures.longer c.push.ensures.exact c.requires.known;
+      onto = onto-then _ _ _ _ _ _ _ _ _ c.loop-i.invariant.1 (onto-then _ _ _ _ _ _ _ _ _ c.write_row-last.ensures.onto c.push.ensures.onto refl)
           (omega (arith, count, same, c.arity.ensures.value));
     }

@@ -16,8 +16,8 @@ use Rattle.compiler.proofs.body.build.Goals as goal
 pub push-next-requires : goal.push-next-requires
 push-next-requires c = omega (arith, c.requires.room, ap (gain (signature c.args.flat.now.symbols.now)) c.in-Structure.is)
 
-pub write-row-end-requires : goal.write-row-end-requires
-write-row-end-requires c = record {
+pub write_row-end-requires : goal.write_row-end-requires
+write_row-end-requires c = record {
   ready = c.requires.ready;
   run = subst (λ n. Run (laid c.args.flat.now).after (laid c.args.flat.now).size n (c.args.i + 1) (hop (laid c.args.flat.now).after n (c.args.i + 1))) (sym c.arity.ensures.value)
       (structure-run (laid c.args.flat.now) c.requires.ready.ends c.args.i c.in-Structure.f c.requires.within c.in-Structure.is);
@@ -25,7 +25,7 @@ write-row-end-requires c = record {
 }
 
 pub bounds-filled-y : goal.bounds-filled-y
-bounds-filled-y c = omega (arith, c.write-row-end.auto.filled, c.requires.ready.slots c.args.i c.in-Structure.f c.requires.within c.in-Structure.is)
+bounds-filled-y c = omega (arith, c.write_row-end.auto.filled, c.requires.ready.slots c.args.i c.in-Structure.f c.requires.within c.in-Structure.is)
 
 pub returns-in-Structure : goal.returns-in-Structure
 returns-in-Structure c =
@@ -34,14 +34,14 @@ returns-in-Structure c =
     record {
       struck = struck-put (laid c.args.flat.now) _ (take c.push-next.result c.push-next.new.out) _ _ _ c.args.i c.in-Structure.f _ _ c.in-Structure.is c.arity.ensures.value formed.1 refl
           c.push-next.ensures.longer c.push-next.ensures.exact formed
-          (still-empty c.requires.ready.ends c.requires.ready.apart c.args.i c.in-Structure.f c.requires.within c.in-Structure.is c.arity.ensures.value c.write-row-end.ensures.rowed c.requires.empty)
-          c.write-row-end.ensures.rowed;
-      onto = onto-then _ _ _ _ _ _ _ _ _ c.push-next.ensures.onto c.write-row-end.ensures.onto
+          (still-empty c.requires.ready.ends c.requires.ready.apart c.args.i c.in-Structure.f c.requires.within c.in-Structure.is c.arity.ensures.value c.write_row-end.ensures.rowed c.requires.empty)
+          c.write_row-end.ensures.rowed;
+      onto = onto-then _ _ _ _ _ _ _ _ _ c.push-next.ensures.onto c.write_row-end.ensures.onto
           (let e = ap (gain (signature c.args.flat.now.symbols.now)) c.in-Structure.is in omega (arith, e, c.arity.ensures.value));
     }
 
 pub returns : goal.returns
 returns c = record {
-  struck = struck-leaf (laid c.args.flat.now) goal' _ c.args.i _ _ refl c.in-default.not-Structure;
-  onto = onto-then _ _ _ _ _ _ 0 0 _ (onto-none _ _) (onto-none _ _) (sym (gain-leaf _ _ c.in-default.not-Structure));
+  struck = struck-leaf (laid c.args.flat.now) goal' _ c.args.i _ _ refl c.in_default.not-Structure;
+  onto = onto-then _ _ _ _ _ _ 0 0 _ (onto-none _ _) (onto-none _ _) (sym (gain-leaf _ _ c.in_default.not-Structure));
 }

@@ -35,7 +35,7 @@ made : (c : After-len-vars)
     → Parsed (signature c.args.symbols.now) (terms_of c.args.line) (get_or c.flatten-p.new.predicates 0 0) (take (c.flatten-p.result.0 - 1) (drop 1 c.flatten-p.new.predicates)) (take (c.flatten-p.result.1 - 0) c.flatten-p.new.items) c.len-vars.result
 made c =
     let z : c.flatten-p.result.1 - 0 ≡ c.flatten-p.result.1 = omega arith in
-    let n = number (goal.at.overflow-cast-vars c).After-flatten-p in
+    let n = number (goal.at.overflow_cast-vars c).After-flatten-p in
     parsed (signature c.args.symbols.now) (terms_of c.args.line) (words_left c.args.line.body) _ _ _ _ c.requires.proper.callable c.requires.proper.some c.requires.counted.tokens c.requires.covered
     (parts-of c.flatten-p.new.predicates _ c.flatten-p.result.0 c.flatten-p.ensures.predicates (omega (arith, n, c.requires.proper.some)) c.flatten-p.ensures.within.0)
     (ap (λ k. take k c.flatten-p.new.items) z ∙ c.flatten-p.ensures.items)
@@ -45,18 +45,18 @@ made c =
 weighed : (c : After-len-vars) → weight (take (c.flatten-p.result.0 - 1) (drop 1 c.flatten-p.new.predicates)) (take (c.flatten-p.result.1 - 0) c.flatten-p.new.items) ≡ c.args.line.weight
 weighed c = (made c).weighs ∙ sym c.requires.counted.weight
 
-pub overflow-cast-vars : goal.overflow-cast-vars
-overflow-cast-vars c = omega (arith, (made c).varied, parts-long (take (c.flatten-p.result.1 - 0) c.flatten-p.new.items), hefts-is (take (c.flatten-p.result.1 - 0) c.flatten-p.new.items), (made c).weighs, c.requires.proper.light)
+pub overflow_cast-vars : goal.overflow_cast-vars
+overflow_cast-vars c = omega (arith, (made c).varied, parts-long (take (c.flatten-p.result.1 - 0) c.flatten-p.new.items), hefts-is (take (c.flatten-p.result.1 - 0) c.flatten-p.new.items), (made c).weighs, c.requires.proper.light)
 
-pub slice-bounds-write-clause-count : goal.slice-bounds-write-clause-count
-slice-bounds-write-clause-count c = omega (arith, number (goal.at.slice-bounds-write-clause-count c).After-flatten-p, c.requires.proper.some)
+pub slice_bounds-write_clause-count : goal.slice_bounds-write_clause-count
+slice_bounds-write_clause-count c = omega (arith, number (goal.at.slice_bounds-write_clause-count c).After-flatten-p, c.requires.proper.some)
 
-pub slice-bounds-write-clause-start : goal.slice-bounds-write-clause-start
-slice-bounds-write-clause-start c = omega (arith, number (goal.at.slice-bounds-write-clause-start c).After-flatten-p, c.requires.proper.some, c.flatten-p.ensures.within.0)
+pub slice_bounds-write_clause-start : goal.slice_bounds-write_clause-start
+slice_bounds-write_clause-start c = omega (arith, number (goal.at.slice_bounds-write_clause-start c).After-flatten-p, c.requires.proper.some, c.flatten-p.ensures.within.0)
 
-pub write-clause-end-requires : goal.write-clause-end-requires
-write-clause-end-requires c =
-    let m = made (goal.at.write-clause-end-requires c).After-len-vars in
+pub write_clause-end-requires : goal.write_clause-end-requires
+write_clause-end-requires c =
+    let m = made (goal.at.write_clause-end-requires c).After-len-vars in
     record {
       whole = m.whole;
       known = m.known;
@@ -67,26 +67,26 @@ write-clause-end-requires c =
       called = m.called;
       light = omega (arith, m.weighs, c.requires.proper.light);
       few = omega (arith, m.counts, c.requires.proper.few);
-      room = omega (arith, weighed (goal.at.write-clause-end-requires c).After-len-vars, c.requires.room);
+      room = omega (arith, weighed (goal.at.write_clause-end-requires c).After-len-vars, c.requires.room);
     }
 
-pub slice-bounds-key-of-end : goal.slice-bounds-key-of-end
-slice-bounds-key-of-end c =
-    omega (arith, c.write-clause-end.ensures.onto.counted, weighed (goal.at.slice-bounds-key-of-end c).After-len-vars, c.requires.room, c.write-clause-end.auto.out)
+pub slice_bounds-key_of-end : goal.slice_bounds-key_of-end
+slice_bounds-key_of-end c =
+    omega (arith, c.write_clause-end.ensures.onto.counted, weighed (goal.at.slice_bounds-key_of-end c).After-len-vars, c.requires.room, c.write_clause-end.auto.out)
 
 pub returns : goal.returns
 returns c =
     let m = made (goal.at.returns c).After-len-vars in
-    let w = c.write-clause-end.ensures in
-    let same : take (c.write-clause-end.result - c.args.at) (drop c.args.at c.write-clause-end.new.out) ≡ w.code =
-    cut c.write-clause-end.new.out c.args.out.now w.code c.args.at c.write-clause-end.result w.longer (omega (arith, c.requires.room)) (omega (arith, w.onto.counted)) in
+    let w = c.write_clause-end.ensures in
+    let same : take (c.write_clause-end.result - c.args.at) (drop c.args.at c.write_clause-end.new.out) ≡ w.code =
+    cut c.write_clause-end.new.out c.args.out.now w.code c.args.at c.write_clause-end.result w.longer (omega (arith, c.requires.room)) (omega (arith, w.onto.counted)) in
     record {
       code = w.code;
       size = w.size ∙ ap (λ k. k + 2) m.weighs;
       end = w.onto.counted ∙ ap (λ k. c.args.at + (k + 2)) m.weighs;
       written = w.longer;
-      rest = w.onto.rest c.write-clause-end.result (omega arith);
+      rest = w.onto.rest c.write_clause-end.result (omega arith);
       known = m.headed;
       denotes = λ d q. m.denotes d q (map decode w.code) w.carries;
-      kept = subst (λ k. Kept (arities_of (signature c.args.symbols.now)) (get_or c.flatten-p.new.predicates 0 0) k w.code) (sym (c.key-of.ensures ∙ ap (λ l. key_of (map decode l)) same)) w.kept;
+      kept = subst (λ k. Kept (arities_of (signature c.args.symbols.now)) (get_or c.flatten-p.new.predicates 0 0) k w.code) (sym (c.key_of.ensures ∙ ap (λ l. key_of (map decode l)) same)) w.kept;
     }

@@ -15,60 +15,60 @@ loop-token-init c = (
   omega arith,
 )
 
-pub predicate-of-requires : goal.predicate-of-requires
-predicate-of-requires c = knows-next c.loop-token.invariant.0 (word c.in-Some.token) (words_left c.next-token.new.self) c.in-Some.ensures.value
+pub predicate_of-requires : goal.predicate_of-requires
+predicate_of-requires c = knows-next c.loop-token.invariant.0 (word c.in-Some.token) (words_left c.next_token.new.self) c.in-Some.ensures.value
 
 pub bounds-predicates-p : goal.bounds-predicates-p
 bounds-predicates-p c =
-    omega (arith, goal-room c.loop-token.invariant.0 (word c.in-Some.token) (words_left c.next-token.new.self) c.in-Some.ensures.value c.if-need-eq0.true, length-take-le c.loop-token.p c.loop-token.predicates c.loop-token.invariant.1, c.requires.goals, c.loop-token.auto.predicates)
+    omega (arith, goal-room c.loop-token.invariant.0 (word c.in-Some.token) (words_left c.next_token.new.self) c.in-Some.ensures.value c.if-need-eq0.true, length-take-le c.loop-token.p c.loop-token.predicates c.loop-token.invariant.1, c.requires.goals, c.loop-token.auto.predicates)
 
 pub loop-token-preserved-then-need-eq0 : goal.loop-token-preserved-then-need-eq0
 loop-token-preserved-then-need-eq0 c =
     let lt : c.loop-token.p < length c.loop-token.predicates =
-    omega (arith, goal-room c.loop-token.invariant.0 (word c.in-Some.token) (words_left c.next-token.new.self) c.in-Some.ensures.value c.if-need-eq0.true, length-take-le c.loop-token.p c.loop-token.predicates c.loop-token.invariant.1, c.requires.goals, c.loop-token.auto.predicates) in (
-      subst (λ n. Flattening (signature c.args.symbols.now) (words_left c.args.body) (signature c.loop-token.variables) n (words_left c.next-token.new.self) (take (c.loop-token.p + 1) (set c.loop-token.predicates c.loop-token.p c.predicate-of.result)) (take c.loop-token.n c.loop-token.items)) (sym c.arity-of-need.ensures.value)
-          (subst (λ l. Flattening (signature c.args.symbols.now) (words_left c.args.body) (signature c.loop-token.variables) (arity (word c.in-Some.token)) (words_left c.next-token.new.self) l (take c.loop-token.n c.loop-token.items))
-          (sym (take-push c.loop-token.predicates c.loop-token.p c.predicate-of.result lt))
-          (goal-next c.loop-token.invariant.0 (word c.in-Some.token) (words_left c.next-token.new.self) c.in-Some.ensures.value c.if-need-eq0.true c.predicate-of.result c.predicate-of.ensures)),
-      omega (arith, length-set c.loop-token.predicates c.loop-token.p c.predicate-of.result),
+    omega (arith, goal-room c.loop-token.invariant.0 (word c.in-Some.token) (words_left c.next_token.new.self) c.in-Some.ensures.value c.if-need-eq0.true, length-take-le c.loop-token.p c.loop-token.predicates c.loop-token.invariant.1, c.requires.goals, c.loop-token.auto.predicates) in (
+      subst (λ n. Flattening (signature c.args.symbols.now) (words_left c.args.body) (signature c.loop-token.variables) n (words_left c.next_token.new.self) (take (c.loop-token.p + 1) (set c.loop-token.predicates c.loop-token.p c.predicate_of.result)) (take c.loop-token.n c.loop-token.items)) (sym c.arity_of-need.ensures.value)
+          (subst (λ l. Flattening (signature c.args.symbols.now) (words_left c.args.body) (signature c.loop-token.variables) (arity (word c.in-Some.token)) (words_left c.next_token.new.self) l (take c.loop-token.n c.loop-token.items))
+          (sym (take-push c.loop-token.predicates c.loop-token.p c.predicate_of.result lt))
+          (goal-next c.loop-token.invariant.0 (word c.in-Some.token) (words_left c.next_token.new.self) c.in-Some.ensures.value c.if-need-eq0.true c.predicate_of.result c.predicate_of.ensures)),
+      omega (arith, length-set c.loop-token.predicates c.loop-token.p c.predicate_of.result),
       c.loop-token.invariant.2,
       c.loop-token.invariant.3,
-      omega (arith, c.arity-of-need.ensures.small),
+      omega (arith, c.arity_of-need.ensures.small),
     )
 
-pub item-of-requires : goal.item-of-requires
-item-of-requires c =
+pub item_of-requires : goal.item_of-requires
+item_of-requires c =
     let some : c.loop-token.need ≡ suc (c.loop-token.need - 1) = (let left = c.if-need-eq0.false in omega arith) in
     record {
-      knows = knows-next c.loop-token.invariant.0 (word c.in-Some.token) (words_left c.next-token.new.self) c.in-Some.ensures.value;
-      few = omega (arith, argument-room c.loop-token.invariant.0 (word c.in-Some.token) (words_left c.next-token.new.self) c.in-Some.ensures.value some, length-take-le c.loop-token.n c.loop-token.items c.loop-token.invariant.2, c.requires.arguments, c.requires.few, c.loop-token.invariant.3);
-      short = short-next c.loop-token.invariant.0 (word c.in-Some.token) (words_left c.next-token.new.self) c.in-Some.ensures.value;
+      knows = knows-next c.loop-token.invariant.0 (word c.in-Some.token) (words_left c.next_token.new.self) c.in-Some.ensures.value;
+      few = omega (arith, argument-room c.loop-token.invariant.0 (word c.in-Some.token) (words_left c.next_token.new.self) c.in-Some.ensures.value some, length-take-le c.loop-token.n c.loop-token.items c.loop-token.invariant.2, c.requires.arguments, c.requires.few, c.loop-token.invariant.3);
+      short = short-next c.loop-token.invariant.0 (word c.in-Some.token) (words_left c.next_token.new.self) c.in-Some.ensures.value;
     }
 
 pub bounds-items-n : goal.bounds-items-n
 bounds-items-n c =
     let some : c.loop-token.need ≡ suc (c.loop-token.need - 1) = (let left = c.if-need-eq0.false in omega arith) in
-    omega (arith, argument-room c.loop-token.invariant.0 (word c.in-Some.token) (words_left c.next-token.new.self) c.in-Some.ensures.value some, length-take-le c.loop-token.n c.loop-token.items c.loop-token.invariant.2, c.requires.arguments, c.loop-token.auto.items)
+    omega (arith, argument-room c.loop-token.invariant.0 (word c.in-Some.token) (words_left c.next_token.new.self) c.in-Some.ensures.value some, length-take-le c.loop-token.n c.loop-token.items c.loop-token.invariant.2, c.requires.arguments, c.loop-token.auto.items)
 
 pub loop-token-preserved : goal.loop-token-preserved
 loop-token-preserved c =
     let some : c.loop-token.need ≡ suc (c.loop-token.need - 1) = (let left = c.if-need-eq0.false in omega arith) in
     let lt : c.loop-token.n < length c.loop-token.items =
-    omega (arith, argument-room c.loop-token.invariant.0 (word c.in-Some.token) (words_left c.next-token.new.self) c.in-Some.ensures.value some, length-take-le c.loop-token.n c.loop-token.items c.loop-token.invariant.2, c.requires.arguments, c.loop-token.auto.items) in (
-      subst (λ n. Flattening (signature c.args.symbols.now) (words_left c.args.body) (signature c.item-of.new.variables) (n + (c.loop-token.need - 1)) (words_left c.next-token.new.self) (take c.loop-token.p c.loop-token.predicates) (take (c.loop-token.n + 1) (set c.loop-token.items c.loop-token.n c.item-of.result))) (sym c.arity-of.ensures.value)
-          (subst (λ l. Flattening (signature c.args.symbols.now) (words_left c.args.body) (signature c.item-of.new.variables) (arity (word c.in-Some.token) + (c.loop-token.need - 1)) (words_left c.next-token.new.self) (take c.loop-token.p c.loop-token.predicates) l)
-          (sym (take-push c.loop-token.items c.loop-token.n c.item-of.result lt))
-          (argument-next c.loop-token.invariant.0 (word c.in-Some.token) (words_left c.next-token.new.self) c.in-Some.ensures.value some (signature c.item-of.new.variables) c.item-of.result c.item-of.ensures.item c.item-of.ensures.noted)),
+    omega (arith, argument-room c.loop-token.invariant.0 (word c.in-Some.token) (words_left c.next_token.new.self) c.in-Some.ensures.value some, length-take-le c.loop-token.n c.loop-token.items c.loop-token.invariant.2, c.requires.arguments, c.loop-token.auto.items) in (
+      subst (λ n. Flattening (signature c.args.symbols.now) (words_left c.args.body) (signature c.item_of.new.variables) (n + (c.loop-token.need - 1)) (words_left c.next_token.new.self) (take c.loop-token.p c.loop-token.predicates) (take (c.loop-token.n + 1) (set c.loop-token.items c.loop-token.n c.item_of.result))) (sym c.arity_of.ensures.value)
+          (subst (λ l. Flattening (signature c.args.symbols.now) (words_left c.args.body) (signature c.item_of.new.variables) (arity (word c.in-Some.token) + (c.loop-token.need - 1)) (words_left c.next_token.new.self) (take c.loop-token.p c.loop-token.predicates) l)
+          (sym (take-push c.loop-token.items c.loop-token.n c.item_of.result lt))
+          (argument-next c.loop-token.invariant.0 (word c.in-Some.token) (words_left c.next_token.new.self) c.in-Some.ensures.value some (signature c.item_of.new.variables) c.item_of.result c.item_of.ensures.item c.item_of.ensures.noted)),
       c.loop-token.invariant.1,
-      omega (arith, length-set c.loop-token.items c.loop-token.n c.item-of.result),
-      omega (arith, c.item-of.ensures.more, c.loop-token.invariant.3),
-      omega (arith, c.arity-of.ensures.small, c.loop-token.invariant.4),
+      omega (arith, length-set c.loop-token.items c.loop-token.n c.item_of.result),
+      omega (arith, c.item_of.ensures.more, c.loop-token.invariant.3),
+      omega (arith, c.arity_of.ensures.small, c.loop-token.invariant.4),
     )
 
 pub returns : goal.returns
 returns c = record {
-  predicates = goals-end c.loop-token.invariant.0 c.in-default.ensures.value;
-  items = arguments-end c.loop-token.invariant.0 c.in-default.ensures.value;
-  variables = after-end c.loop-token.invariant.0 c.in-default.ensures.value;
+  predicates = goals-end c.loop-token.invariant.0 c.in_default.ensures.value;
+  items = arguments-end c.loop-token.invariant.0 c.in_default.ensures.value;
+  variables = after-end c.loop-token.invariant.0 c.in_default.ensures.value;
   within = (c.loop-token.invariant.1, c.loop-token.invariant.2);
 }

@@ -9,44 +9,44 @@ use Rattle.compiler.proofs.TableLaws.{run-hop, run-own}
 use Rattle.compiler.proofs.StepLaws.{head-start, head-marked, head-turn, head-size, head-end, head-words, head-room, run_short}
 use Rattle.compiler.proofs.OutputLaws.{onto-none, onto-then}
 use Rattle.compiler.proofs.head.open_head.Goals as goal
-use Rattle.compiler.proofs.head.open_head.Goals.{After-write-row-next}
+use Rattle.compiler.proofs.head.open_head.Goals.{After-write_row-next}
 
-pub write-row-next-requires : goal.write-row-next-requires
-write-row-next-requires c = record {
+pub write_row-next-requires : goal.write_row-next-requires
+write_row-next-requires c = record {
   ready = c.requires.ready;
   run = run-own (laid c.args.flat.now).after _ _ 0 _ _ c.requires.run c.arity.ensures.value;
   room = omega (arith, c.requires.room, c.arity.ensures.value, run_short c.requires.ready.ends _ 0 _ c.requires.run);
 }
 
-rowed : (c : After-write-row-next)
-    → Rowed (laid c.args.flat.now) Gets (take c.args.at c.args.out.now) (take c.write-row-next.result c.write-row-next.new.out) c.args.filled.now c.write-row-next.new.filled (arity_at (signature c.args.flat.now.symbols.now) c.args.p) 0
+rowed : (c : After-write_row-next)
+    → Rowed (laid c.args.flat.now) Gets (take c.args.at c.args.out.now) (take c.write_row-next.result c.write_row-next.new.out) c.args.filled.now c.write_row-next.new.filled (arity_at (signature c.args.flat.now.symbols.now) c.args.p) 0
 rowed c =
-    subst (λ n. Rowed (laid c.args.flat.now) Gets (take c.args.at c.args.out.now) (take c.write-row-next.result c.write-row-next.new.out) c.args.filled.now c.write-row-next.new.filled n 0)
-    c.arity.ensures.value c.write-row-next.ensures.rowed
+    subst (λ n. Rowed (laid c.args.flat.now) Gets (take c.args.at c.args.out.now) (take c.write_row-next.result c.write_row-next.new.out) c.args.filled.now c.write_row-next.new.filled n 0)
+    c.arity.ensures.value c.write_row-next.ensures.rowed
 
 pub loop-i-init : goal.loop-i-init
-loop-i-init c = (head-start c.requires.ready.ends c.requires.ready.apart _ _ _ _ _ _ (rowed (goal.at.loop-i-init c).After-write-row-next) c.requires.run c.requires.ahead, onto-none _ _)
+loop-i-init c = (head-start c.requires.ready.ends c.requires.ready.apart _ _ _ _ _ _ (rowed (goal.at.loop-i-init c).After-write_row-next) c.requires.run c.requires.ahead, onto-none _ _)
 
-pub take-apart-next-requires : goal.take-apart-next-requires
-take-apart-next-requires c = record {
-  ready = subst (λ n. Ready c.args.flat.now n) (sym (c.loop-i.auto.filled ∙ c.write-row-next.auto.filled)) c.requires.ready;
+pub take_apart-next-requires : goal.take_apart-next-requires
+take_apart-next-requires c = record {
+  ready = subst (λ n. Ready c.args.flat.now n) (sym (c.loop-i.auto.filled ∙ c.write_row-next.auto.filled)) c.requires.ready;
   within = omega (arith, run-within c.requires.ready.ends _ 0 _ (omega arith) c.requires.run (omega arith));
   marked = head-marked c.loop-i.invariant.0 c.loop-i-test.true;
-  room = omega (arith, head-room c.requires.ready.ends c.loop-i.invariant.0 c.loop-i-test.true, c.loop-i.invariant.1.counted, c.write-row-next.ensures.onto.counted, c.arity.ensures.value, c.requires.room, c.loop-i.auto.out, c.write-row-next.auto.out);
+  room = omega (arith, head-room c.requires.ready.ends c.loop-i.invariant.0 c.loop-i-test.true, c.loop-i.invariant.1.counted, c.write_row-next.ensures.onto.counted, c.arity.ensures.value, c.requires.room, c.loop-i.auto.out, c.write_row-next.auto.out);
 }
 
 pub loop-i-preserved : goal.loop-i-preserved
 loop-i-preserved c = (
-  head-turn c.requires.ready.ends c.requires.ready.apart c.loop-i.invariant.0 c.loop-i-test.true c.take-apart-next.ensures.struck,
-  onto-then _ _ _ _ _ _ _ _ _ c.loop-i.invariant.1 c.take-apart-next.ensures.onto
-      (head-size c.requires.ready.ends c.requires.ready.apart c.loop-i.invariant.0 c.loop-i-test.true c.take-apart-next.ensures.struck),
+  head-turn c.requires.ready.ends c.requires.ready.apart c.loop-i.invariant.0 c.loop-i-test.true c.take_apart-next.ensures.struck,
+  onto-then _ _ _ _ _ _ _ _ _ c.loop-i.invariant.1 c.take_apart-next.ensures.onto
+      (head-size c.requires.ready.ends c.requires.ready.apart c.loop-i.invariant.0 c.loop-i-test.true c.take_apart-next.ensures.struck),
 )
 
 pub returns : goal.returns
 returns c =
-    let opened = head-end c.requires.ready.ends c.args.p _ _ _ _ _ _ _ _ _ refl (omega arith) (run-hop _ _ _ _ _ c.requires.run) (rowed (goal.at.returns c).After-write-row-next) c.loop-i.invariant.0 in
+    let opened = head-end c.requires.ready.ends c.args.p _ _ _ _ _ _ _ _ _ refl (omega arith) (run-hop _ _ _ _ _ c.requires.run) (rowed (goal.at.returns c).After-write_row-next) c.loop-i.invariant.0 in
     record {
       opened = opened;
-      onto = onto-then _ _ _ _ _ _ _ _ _ c.write-row-next.ensures.onto c.loop-i.invariant.1
+      onto = onto-then _ _ _ _ _ _ _ _ _ c.write_row-next.ensures.onto c.loop-i.invariant.1
           (ap (λ k. k + c.loop-i.invariant.0.size) c.arity.ensures.value ∙ head-words c.requires.ready.ends c.loop-i.invariant.0 (omega arith));
     }

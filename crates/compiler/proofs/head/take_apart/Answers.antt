@@ -15,8 +15,8 @@ use Rattle.compiler.proofs.head.take_apart.Goals as goal
 pub push-next-requires : goal.push-next-requires
 push-next-requires c = omega (arith, c.requires.room, ap (gain (signature c.args.flat.now.symbols.now)) c.in-Structure.is)
 
-pub write-row-requires : goal.write-row-requires
-write-row-requires c = record {
+pub write_row-requires : goal.write_row-requires
+write_row-requires c = record {
   ready = c.requires.ready;
   run = subst (λ n. Run (laid c.args.flat.now).after (laid c.args.flat.now).size n (c.args.i + 1) (hop (laid c.args.flat.now).after n (c.args.i + 1))) (sym c.arity.ensures.value)
       (structure-run (laid c.args.flat.now) c.requires.ready.ends c.args.i c.in-Structure.f c.requires.within c.in-Structure.is);
@@ -28,13 +28,13 @@ returns-in-Structure c = record {
   struck = struck-get (laid c.args.flat.now) _ (take c.push-next.result c.push-next.new.out) _ _ _ c.args.i c.in-Structure.f _ _ c.in-Structure.is c.arity.ensures.value refl
       c.push-next.ensures.longer c.push-next.ensures.exact
       (subst (Sound (signature c.args.flat.now.symbols.now)) c.in-Structure.is (c.requires.ready.known c.args.i c.requires.within))
-      c.requires.marked c.write-row.ensures.rowed;
-  onto = onto-then _ _ _ _ _ _ _ _ _ c.push-next.ensures.onto c.write-row.ensures.onto
+      c.requires.marked c.write_row.ensures.rowed;
+  onto = onto-then _ _ _ _ _ _ _ _ _ c.push-next.ensures.onto c.write_row.ensures.onto
       (let e = ap (gain (signature c.args.flat.now.symbols.now)) c.in-Structure.is in omega (arith, e, c.arity.ensures.value));
 }
 
 pub returns : goal.returns
 returns c = record {
-  struck = struck-leaf (laid c.args.flat.now) inside _ c.args.i _ _ refl c.in-default.not-Structure;
-  onto = onto-then _ _ _ _ _ _ 0 0 _ (onto-none _ _) (onto-none _ _) (sym (gain-leaf _ _ c.in-default.not-Structure));
+  struck = struck-leaf (laid c.args.flat.now) inside _ c.args.i _ _ refl c.in_default.not-Structure;
+  onto = onto-then _ _ _ _ _ _ 0 0 _ (onto-none _ _) (onto-none _ _) (sym (gain-leaf _ _ c.in_default.not-Structure));
 }

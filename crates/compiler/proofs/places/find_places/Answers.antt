@@ -10,11 +10,11 @@ loop-i-init c = ends-none _ _ _ [] _ (omega arith)
 
 pub skip-end-requires : goal.skip-end-requires
 skip-end-requires c =
-    turn-run (signature c.args.symbols.now) c.args.items.now [] c.loop-i.i _ c.requires.whole c.loop-i.invariant (omega arith) (omega arith) refl (search rules) c.width-of.ensures
+    turn-run (signature c.args.symbols.now) c.args.items.now [] c.loop-i.i _ c.requires.whole c.loop-i.invariant (omega arith) (omega arith) refl (search rules) c.width_of.ensures
 
 pub loop-i-preserved : goal.loop-i-preserved
 loop-i-preserved c =
-    turn-ends (signature c.args.symbols.now) c.args.items.now [] c.loop-i.i _ c.requires.whole c.loop-i.invariant (omega arith) (omega arith) refl (search rules) c.width-of.ensures _ c.skip-end.ensures
+    turn-ends (signature c.args.symbols.now) c.args.items.now [] c.loop-i.i _ c.requires.whole c.loop-i.invariant (omega arith) (omega arith) refl (search rules) c.width_of.ensures _ c.skip-end.ensures
 
 pub returns : goal.returns
 returns c =

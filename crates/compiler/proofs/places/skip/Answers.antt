@@ -11,10 +11,10 @@ loop-k-init c = (refl, λ h. run_at (table c.args.after.now) _ _ _ _ 0 c.require
 
 pub loop-k-preserved : goal.loop-k-preserved
 loop-k-preserved c =
-    let next = ap (table c.args.after.now) c.loop-k.invariant.0 ∙ sym (hop-more (table c.args.after.now) c.loop-k.-k c.args.from) in
-    (next, λ h. subst (λ x. x < length c.args.after.now) (sym next) (run_at (table c.args.after.now) _ _ _ _ (c.loop-k.-k + 1) c.requires h))
+    let next = ap (table c.args.after.now) c.loop-k.invariant.0 ∙ sym (hop-more (table c.args.after.now) c.loop-k._k c.args.from) in
+    (next, λ h. subst (λ x. x < length c.args.after.now) (sym next) (run_at (table c.args.after.now) _ _ _ _ (c.loop-k._k + 1) c.requires h))
 
 pub returns : goal.returns
 returns c =
-    let all : c.loop-k.-k ≡ c.args.n = omega arith in
+    let all : c.loop-k._k ≡ c.args.n = omega arith in
     c.loop-k.invariant.0 ∙ ap (λ n. hop (table c.args.after.now) n c.args.from) all

@@ -6,4 +6,4 @@ use Rattle.compiler.specs.Tables.{table}
 use Rattle.compiler.proofs.places.skip.Given as goal
 
 abbrev pub invariant-loop-k : goal.invariant-loop-k
-invariant-loop-k l = (l.at ≡ hop (table l.after) l.-k l.from) × (l.-k < l.n → l.at < length l.after)
+invariant-loop-k l = (l.at ≡ hop (table l.after) l._k l.from) × (l._k < l.n → l.at < length l.after)

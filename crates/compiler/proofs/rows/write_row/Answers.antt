@@ -11,8 +11,8 @@ use Rattle.compiler.proofs.rows.write_row.Goals as goal
 pub loop-k-init : goal.loop-k-init
 loop-k-init c = (rowed-none _ _ _ _ _, refl, λ h. run_at (laid c.args.flat.now).after _ _ _ _ 0 c.requires.run h, onto-none _ _)
 
-pub operand-for-operand-requires : goal.operand-for-operand-requires
-operand-for-operand-requires c = record {
+pub operand_for-operand-requires : goal.operand_for-operand-requires
+operand_for-operand-requires c = record {
   ready = subst (λ n. Ready c.args.flat.now n) (sym c.loop-k.auto.filled) c.requires.ready;
   within = c.loop-k.invariant.2 c.loop-k-test.true;
 }
@@ -27,7 +27,7 @@ pub loop-k-preserved : goal.loop-k-preserved
 loop-k-preserved c =
     let e : ℕ → ℕ = (laid c.args.flat.now).after in
     let next = ap e c.loop-k.invariant.1 ∙ sym (hop-more e c.loop-k.k c.args.from) in (
-      rowed-more c.loop-k.invariant.0 c.loop-k.place _ _ _ _ c.loop-k.invariant.1 c.operand-for-operand.ensures c.instruction-for.ensures
+      rowed-more c.loop-k.invariant.0 c.loop-k.place _ _ _ _ c.loop-k.invariant.1 c.operand_for-operand.ensures c.instruction_for.ensures
           c.push-next.ensures.longer c.push-next.ensures.exact,
       next,
       λ h. subst (λ x. x < length c.args.flat.now.items.now) (sym next) (run_at e _ _ _ _ (c.loop-k.k + 1) c.requires.run h),

@@ -7,8 +7,8 @@ use Rattle.compiler.proofs.slots.number_slots.Goals as goal
 pub loop-i-init : goal.loop-i-init
 loop-i-init c = (omega arith, λ k h. absurd (omega arith))
 
-pub overflow-add-next : goal.overflow-add-next
-overflow-add-next c =
+pub overflow_add-next : goal.overflow_add-next
+overflow_add-next c =
     let more = structures-more c.args.items.now c.loop-i.i (omega arith) in
     omega (arith, more, structures-up c.args.items.now (c.loop-i.i + 1), c.loop-i.invariant.0, c.ones-next.ensures, c.requires.few)
 

@@ -29,9 +29,9 @@ within : (c : After-skip-end) → c.skip-end.result ≤ length c.args.flat.now.i
 within c =
     omega (arith, here c, first-within (signature c.args.flat.now.symbols.now) c.args.flat.now.items.now c.args.flat.now.after.now c.args.flat.now.slots.now c.requires.ready.ends c.args.head c.args.goals.now c.requires.full)
 
-pub open-head-next-requires : goal.open-head-next-requires
-open-head-next-requires c =
-    let s = (goal.at.open-head-next-requires c).After-skip-end in
+pub open_head-next-requires : goal.open_head-next-requires
+open_head-next-requires c =
+    let s = (goal.at.open_head-next-requires c).After-skip-end in
     record {
       ready = c.requires.ready;
       ahead = c.requires.ahead;
@@ -44,7 +44,7 @@ open-head-next-requires c =
 pub loop-p-init : goal.loop-p-init
 loop-p-init c =
     let s = (goal.at.loop-p-init c).After-skip-end in (
-      body-start (laid c.args.flat.now) _ _ _ _ (within s) c.open-head-next.ensures.opened.ahead,
+      body-start (laid c.args.flat.now) _ _ _ _ (within s) c.open_head-next.ensures.opened.ahead,
       first-left (signature c.args.flat.now.symbols.now) c.args.flat.now.items.now c.args.flat.now.after.now c.args.flat.now.slots.now c.requires.ready.ends c.args.head c.args.goals.now c.requires.full
           ∙ ap (λ j. count (stack (signature c.args.flat.now.symbols.now) c.args.flat.now.items.now j)) (sym (here s)),
       onto-none _ _,
@@ -65,11 +65,11 @@ goal-within c = run-within c.requires.ready.ends _ c.loop-p.end _ (omega arith) 
 goal-up : (c : After-skip-end-in-loop-p) → c.loop-p.end ≤ c.skip-end-in-loop-p.result
 goal-up c = run_up c.requires.ready.ends _ c.loop-p.end _ (omega arith) (goal-run c)
 
-pub add-goal-next-requires : goal.add-goal-next-requires
-add-goal-next-requires c =
-    let s = (goal.at.add-goal-next-requires c).After-skip-end-in-loop-p in
+pub add_goal-next-requires : goal.add_goal-next-requires
+add_goal-next-requires c =
+    let s = (goal.at.add_goal-next-requires c).After-skip-end-in-loop-p in
     record {
-      ready = subst (λ n. Ready c.args.flat.now n) (sym (c.loop-p.auto.filled ∙ c.open-head-next.auto.filled)) c.requires.ready;
+      ready = subst (λ n. Ready c.args.flat.now n) (sym (c.loop-p.auto.filled ∙ c.open_head-next.auto.filled)) c.requires.ready;
       known = c.requires.known c.loop-p.p-index c.loop-p-test.true;
       within = c.loop-p.invariant.0.within;
       ahead = c.loop-p.invariant.0.ahead;
@@ -79,14 +79,14 @@ add-goal-next-requires c =
         c.requires.room,
         c.loop-p.invariant.0.count,
         c.loop-p.invariant.2.counted,
-        c.open-head-next.ensures.onto.counted,
+        c.open_head-next.ensures.onto.counted,
         goal-within s,
         goal-up s,
         before-up (laid c.args.flat.now) c.skip-end-in-loop-p.result (length c.args.flat.now.items.now) (goal-within s),
         before-up (laid c.args.flat.now) c.loop-p.end c.skip-end-in-loop-p.result (goal-up s),
         c.loop-p-test.true,
         c.loop-p.auto.out,
-        c.open-head-next.auto.out,
+        c.open_head-next.auto.out,
       );
     }
 
@@ -94,20 +94,20 @@ pub loop-p-preserved : goal.loop-p-preserved
 loop-p-preserved c =
     let s = (goal.at.loop-p-preserved c).After-skip-end-in-loop-p in
     let next = c.skip-end-in-loop-p.ensures ∙ ap (λ n. hop (table c.args.flat.now.after.now) n c.loop-p.end) c.arity-in-loop-p.ensures.value in
-    let turned = body-turn {p = laid c.args.flat.now} _ c.loop-p.p-index c.loop-p.end _ (get_or c.args.goals.now c.loop-p.p-index 0) c.args.goals.now _ _ _ _ _ _ c.loop-p-test.true refl (goal-up s) (goal-within s) next c.loop-p.invariant.0 c.add-goal-next.ensures.goal in (
+    let turned = body-turn {p = laid c.args.flat.now} _ c.loop-p.p-index c.loop-p.end _ (get_or c.args.goals.now c.loop-p.p-index 0) c.args.goals.now _ _ _ _ _ _ c.loop-p-test.true refl (goal-up s) (goal-within s) next c.loop-p.invariant.0 c.add_goal-next.ensures.goal in (
       turned,
       left-next (signature c.args.flat.now.symbols.now) c.args.flat.now.items.now c.args.flat.now.after.now c.args.flat.now.slots.now c.requires.ready.ends c.args.goals.now c.loop-p.p-index c.loop-p.end (get_or c.args.goals.now c.loop-p.p-index 0) c.loop-p-test.true refl c.loop-p.invariant.1
           ∙ ap (λ j. count (stack (signature c.args.flat.now.symbols.now) c.args.flat.now.items.now j)) (sym next),
-      onto-then _ _ _ _ _ _ _ _ _ c.loop-p.invariant.2 c.add-goal-next.ensures.onto
+      onto-then _ _ _ _ _ _ _ _ _ c.loop-p.invariant.2 c.add_goal-next.ensures.onto
           (omega (arith, turned.count, c.loop-p.invariant.0.count, goal-up s, before-up (laid c.args.flat.now) c.loop-p.end c.skip-end-in-loop-p.result (goal-up s))),
     )
 
 pub returns : goal.returns
 returns c =
     let all : c.loop-p.p-index ≡ length c.args.goals.now = omega arith in
-    let last = at-end (signature c.args.flat.now.symbols.now) c.args.flat.now.items.now c.args.flat.now.after.now c.args.flat.now.slots.now c.args.head c.args.goals.now c.loop-p.p-index c.loop-p.end _ all c.loop-p.invariant.1 _ _ _ _ _ _ c.open-head-next.ensures.opened c.loop-p.invariant.0 in
+    let last = at-end (signature c.args.flat.now.symbols.now) c.args.flat.now.items.now c.args.flat.now.after.now c.args.flat.now.slots.now c.args.head c.args.goals.now c.loop-p.p-index c.loop-p.end _ all c.loop-p.invariant.1 _ _ _ _ _ _ c.open_head-next.ensures.opened c.loop-p.invariant.0 in
     record {
-      written = body_end (signature c.args.flat.now.symbols.now) c.args.flat.now.items.now c.args.flat.now.after.now c.args.flat.now.slots.now c.args.head c.args.goals.now c.loop-p.p-index c.loop-p.end _ all c.loop-p.invariant.1 _ _ _ _ _ _ c.open-head-next.ensures.opened c.loop-p.invariant.0;
-      onto = onto-then _ _ _ _ _ _ _ _ _ c.open-head-next.ensures.onto c.loop-p.invariant.2
+      written = body_end (signature c.args.flat.now.symbols.now) c.args.flat.now.items.now c.args.flat.now.after.now c.args.flat.now.slots.now c.args.head c.args.goals.now c.loop-p.p-index c.loop-p.end _ all c.loop-p.invariant.1 _ _ _ _ _ _ c.open_head-next.ensures.opened c.loop-p.invariant.0;
+      onto = onto-then _ _ _ _ _ _ _ _ _ c.open_head-next.ensures.onto c.loop-p.invariant.2
           (omega (arith, c.loop-p.invariant.0.count, last, ap (before (laid c.args.flat.now)) last, all));
     }

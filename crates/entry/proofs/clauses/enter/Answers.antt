@@ -8,12 +8,12 @@ use Rattle.entering.proofs.CheckLaws.{runnable-ready, runnable-costs}
 use Rattle.entry.proofs.EndLaws.{told-few}
 use Rattle.entry.proofs.clauses.enter.Goals as goal
 
-pub run-clear-requires : goal.run-clear-requires
-run-clear-requires c =
+pub run_clear-requires : goal.run_clear-requires
+run_clear-requires c =
     let clause = c.requires.clause in
     let costs = runnable-costs c.args.table.now c.args.goal.symbol c.args.code.now clause in
-    let n : length (take c.opened-by-n.result c.args.slots.now) ≡ opened c.args.code.now =
-    length-take-le c.opened-by-n.result c.args.slots.now (omega (arith, c.opened-by-n.ensures.value, clause.formed.few, c.requires.slots)) ∙ c.opened-by-n.ensures.value in
+    let n : length (take c.opened_by-n.result c.args.slots.now) ≡ opened c.args.code.now =
+    length-take-le c.opened_by-n.result c.args.slots.now (omega (arith, c.opened_by-n.ensures.value, clause.formed.few, c.requires.slots)) ∙ c.opened_by-n.ensures.value in
     record {
       goals = c.requires.goals;
       goal = c.requires.goal;
@@ -28,7 +28,7 @@ pub returns : goal.returns
 returns c =
     let costs = runnable-costs c.args.table.now c.args.goal.symbol c.args.code.now c.requires.clause in
     record {
-      grew = c.run-clear.ensures.grew;
-      result = c.run-clear.ensures.result;
-      few = told-few c.args.table.now c.args.code.now c.args.goal _ _ c.run-clear.result _ costs.0 c.run-clear.ensures.result;
+      grew = c.run_clear.ensures.grew;
+      result = c.run_clear.ensures.result;
+      few = told-few c.args.table.now c.args.code.now c.args.goal _ _ c.run_clear.result _ costs.0 c.run_clear.ensures.result;
     }

@@ -18,10 +18,10 @@ step-requires c = record {
   going = reached-going _ _ _ _ c.loop-place.invariant.0 c.requires.going;
 }
 
-pub returns-in-default : goal.returns-in-default
-returns-in-default c = record {
+pub returns-in_default : goal.returns-in_default
+returns-in_default c = record {
   grew = grew_trans c.loop-place.invariant.1 c.step.ensures.grew;
-  result = reached-stuck _ _ _ _ c.loop-place.invariant.0 c.requires.going (rw c.in-default.is at c.step.ensures.result);
+  result = reached-stuck _ _ _ _ c.loop-place.invariant.0 c.requires.going (rw c.in_default.is at c.step.ensures.result);
 }
 
 pub loop-place-preserved : goal.loop-place-preserved

@@ -23,20 +23,20 @@ returns-in-Node c = record {
 
 pub unify-requires : goal.unify-requires
 unify-requires c =
-    let e = c.make-constant.ensures.cells in
+    let e = c.make_constant.ensures.cells in
     let H = cells_of c.args.store.now in
     record {
-      a-within = omega (arith, c.requires.within, ap length e, length_push H (Node c.args.c 0 0));
-      b-within = omega (arith, c.top-j.ensures.value, ap length e, length_push H (Node c.args.c 0 0));
+      a_within = omega (arith, c.requires.within, ap length e, length_push H (Node c.args.c 0 0));
+      b_within = omega (arith, c.top-j.ensures.value, ap length e, length_push H (Node c.args.c 0 0));
     }
 
 pub returns : goal.returns
 returns c =
-    let e = c.make-constant.ensures.cells in
+    let e = c.make_constant.ensures.cells in
     let H = cells_of c.args.store.now in
     let k = c.unify.ensures.kept in
     record {
-      grew = constant-grew H _ _ _ _ c.args.c c.args.i c.top-j.result c.requires.within e c.top-j.ensures.value (subst (λ t. Kept (cells_of c.make-constant.new.store) t (cells_of c.unify.new.self) (bound_of c.unify.new.self)) c.make-constant.ensures.trail k);
+      grew = constant-grew H _ _ _ _ c.args.c c.args.i c.top-j.result c.requires.within e c.top-j.ensures.value (subst (λ t. Kept (cells_of c.make_constant.new.store) t (cells_of c.unify.new.self) (bound_of c.unify.new.self)) c.make_constant.ensures.trail k);
       long = constant-long H _ _ _ _ c.args.c c.args.i c.top-j.result c.requires.within e c.top-j.ensures.value k;
       result = constant-bound H _ _ _ _ c.args.c c.args.i c.top-j.result c.requires.within e c.top-j.ensures.value c.unify.result k c.unify.ensures.result;
     }

@@ -6,7 +6,7 @@ use Rattle.entry.proofs.GetLaws.{inside-long, known-told, fresh-told}
 use Rattle.entry.proofs.operands.get_slot.Goals as goal
 
 pub unify-requires : goal.unify-requires
-unify-requires c = record { a-within = c.requires.within; b-within = c.requires.inside c.args.y c.in-Some.j c.in-Some.is }
+unify-requires c = record { a_within = c.requires.within; b_within = c.requires.inside c.args.y c.in-Some.j c.in-Some.is }
 
 pub returns-in-Some : goal.returns-in-Some
 returns-in-Some c =
@@ -22,6 +22,6 @@ pub returns : goal.returns
 returns c = record {
   grew = grew_none _ _;
   long = refl;
-  inside = inside-set c.args.slots.now c.args.y c.args.i c.requires.y-within c.in-default.is _ c.requires.within c.requires.inside;
-  result = fresh-told _ c.args.slots.now c.args.y c.args.i c.requires.within c.requires.y-within c.in-default.is;
+  inside = inside-set c.args.slots.now c.args.y c.args.i c.requires.y_within c.in_default.is _ c.requires.within c.requires.inside;
+  result = fresh-told _ c.args.slots.now c.args.y c.args.i c.requires.within c.requires.y_within c.in_default.is;
 }

@@ -9,8 +9,8 @@ use Rattle.entry.proofs.StoreLaws.{store-few}
 use Rattle.entry.proofs.WordLaws.{going-word, advance-allocate, advance-proceed, advance-unify, advance-set, advance-put, advance-get, stuck-got, structure-long, structure-taken, structure-room, advance-get-structure, stuck-get-structure, advance-put-structure, stuck-put-structure, call-taken, call-count, advance-call}
 use Rattle.entry.proofs.steps.step.Goals as goal
 
-pub overflow-sub-a : goal.overflow-sub-a
-overflow-sub-a c =
+pub overflow_sub-a : goal.overflow_sub-a
+overflow_sub-a c =
     let H = cells_of c.args.store.now in
     let S = c.args.slots.now in
     let R = c.args.puts.now in
@@ -21,8 +21,8 @@ overflow-sub-a c =
     let go = going-word table words c.args.args c.args.first c.args.at H S R G c.args.count c.requires.within c.requires.count (Get c.in-Get.o c.in-Get.a) e c.requires.going in
     omega (arith, go.ready.0)
 
-pub overflow-add-first : goal.overflow-add-first
-overflow-add-first c =
+pub overflow_add-first : goal.overflow_add-first
+overflow_add-first c =
     let H = cells_of c.args.store.now in
     let S = c.args.slots.now in
     let R = c.args.puts.now in
@@ -91,11 +91,11 @@ structure-requires c =
     let e = sym c.decode.ensures.value ∙ c.in-GetStructure.is in
     let go = going-word table words c.args.args c.args.first c.args.at H S R G c.args.count c.requires.within c.requires.count (GetStructure c.in-GetStructure.y c.in-GetStructure.f) e c.requires.going in
     record {
-      within = structure-long table words c.args.args c.args.first c.args.at H S R G c.args.count c.requires.within c.requires.count c.in-GetStructure.y c.in-GetStructure.f c.arity-of-n.result c.arity-of-n.ensures.value go.ready.2;
-      taken = structure-taken table words c.args.args c.args.first c.args.at H S R G c.args.count c.requires.within c.requires.count c.in-GetStructure.y c.in-GetStructure.f c.arity-of-n.result c.arity-of-n.ensures.value go.put go.ready.2 go.ready.3;
-      y-within = go.ready.0;
+      within = structure-long table words c.args.args c.args.first c.args.at H S R G c.args.count c.requires.within c.requires.count c.in-GetStructure.y c.in-GetStructure.f c.arity_of-n.result c.arity_of-n.ensures.value go.ready.2;
+      taken = structure-taken table words c.args.args c.args.first c.args.at H S R G c.args.count c.requires.within c.requires.count c.in-GetStructure.y c.in-GetStructure.f c.arity_of-n.result c.arity_of-n.ensures.value go.put go.ready.2 go.ready.3;
+      y_within = go.ready.0;
       inside = go.stands.inside;
-      room = structure-room table words c.args.args c.args.first c.args.at H S R G c.args.count c.requires.within c.requires.count c.in-GetStructure.y c.in-GetStructure.f c.arity-of-n.result c.arity-of-n.ensures.value (length go.put) cell_limit go.ready.2 go.cells_room;
+      room = structure-room table words c.args.args c.args.first c.args.at H S R G c.args.count c.requires.within c.requires.count c.in-GetStructure.y c.in-GetStructure.f c.arity_of-n.result c.arity_of-n.ensures.value (length go.put) cell_limit go.ready.2 go.cells_room;
     }
 
 pub returns-then-not-structure : goal.returns-then-not-structure
@@ -110,7 +110,7 @@ returns-then-not-structure c =
     let go = going-word table words c.args.args c.args.first c.args.at H S R G c.args.count c.requires.within c.requires.count (GetStructure c.in-GetStructure.y c.in-GetStructure.f) e c.requires.going in
     record {
       grew = c.structure.ensures.grew;
-      result = stuck-get-structure table words c.args.args c.args.first c.args.at H S R G c.args.count c.requires.within c.requires.count c.in-GetStructure.y c.in-GetStructure.f c.arity-of-n.result c.arity-of-n.ensures.value e go (rw c.if-not-structure.true at c.structure.ensures.result);
+      result = stuck-get-structure table words c.args.args c.args.first c.args.at H S R G c.args.count c.requires.within c.requires.count c.in-GetStructure.y c.in-GetStructure.f c.arity_of-n.result c.arity_of-n.ensures.value e go (rw c.if-not-structure.true at c.structure.ensures.result);
     }
 
 pub returns-else-not-structure : goal.returns-else-not-structure
@@ -125,7 +125,7 @@ returns-else-not-structure c =
     let go = going-word table words c.args.args c.args.first c.args.at H S R G c.args.count c.requires.within c.requires.count (GetStructure c.in-GetStructure.y c.in-GetStructure.f) e c.requires.going in
     record {
       grew = c.structure.ensures.grew;
-      result = advance-get-structure table words c.args.args c.args.first c.args.at H S R G c.args.count c.requires.within c.requires.count c.in-GetStructure.y c.in-GetStructure.f c.arity-of-n.result c.arity-of-n.ensures.value e (cells_of c.structure.new.store) c.structure.new.slots c.structure.auto.slots c.structure.ensures.long (rw c.if-not-structure.false at c.structure.ensures.result);
+      result = advance-get-structure table words c.args.args c.args.first c.args.at H S R G c.args.count c.requires.within c.requires.count c.in-GetStructure.y c.in-GetStructure.f c.arity_of-n.result c.arity_of-n.ensures.value e (cells_of c.structure.new.store) c.structure.new.slots c.structure.auto.slots c.structure.ensures.long (rw c.if-not-structure.false at c.structure.ensures.result);
     }
 
 pub structure-requires-in-PutStructure : goal.structure-requires-in-PutStructure
@@ -139,11 +139,11 @@ structure-requires-in-PutStructure c =
     let e = sym c.decode.ensures.value ∙ c.in-PutStructure.is in
     let go = going-word table words c.args.args c.args.first c.args.at H S R G c.args.count c.requires.within c.requires.count (PutStructure c.in-PutStructure.y c.in-PutStructure.f) e c.requires.going in
     record {
-      within = structure-long table words c.args.args c.args.first c.args.at H S R G c.args.count c.requires.within c.requires.count c.in-PutStructure.y c.in-PutStructure.f c.arity-of-n-in-PutStructure.result c.arity-of-n-in-PutStructure.ensures.value go.ready.2;
-      taken = structure-taken table words c.args.args c.args.first c.args.at H S R G c.args.count c.requires.within c.requires.count c.in-PutStructure.y c.in-PutStructure.f c.arity-of-n-in-PutStructure.result c.arity-of-n-in-PutStructure.ensures.value go.put go.ready.2 go.ready.3;
-      y-within = go.ready.0;
+      within = structure-long table words c.args.args c.args.first c.args.at H S R G c.args.count c.requires.within c.requires.count c.in-PutStructure.y c.in-PutStructure.f c.arity_of-n-in-PutStructure.result c.arity_of-n-in-PutStructure.ensures.value go.ready.2;
+      taken = structure-taken table words c.args.args c.args.first c.args.at H S R G c.args.count c.requires.within c.requires.count c.in-PutStructure.y c.in-PutStructure.f c.arity_of-n-in-PutStructure.result c.arity_of-n-in-PutStructure.ensures.value go.put go.ready.2 go.ready.3;
+      y_within = go.ready.0;
       inside = go.stands.inside;
-      room = structure-room table words c.args.args c.args.first c.args.at H S R G c.args.count c.requires.within c.requires.count c.in-PutStructure.y c.in-PutStructure.f c.arity-of-n-in-PutStructure.result c.arity-of-n-in-PutStructure.ensures.value (length go.put) cell_limit go.ready.2 go.cells_room;
+      room = structure-room table words c.args.args c.args.first c.args.at H S R G c.args.count c.requires.within c.requires.count c.in-PutStructure.y c.in-PutStructure.f c.arity_of-n-in-PutStructure.result c.arity_of-n-in-PutStructure.ensures.value (length go.put) cell_limit go.ready.2 go.cells_room;
     }
 
 pub returns-then-not-structure-2 : goal.returns-then-not-structure-2
@@ -158,7 +158,7 @@ returns-then-not-structure-2 c =
     let go = going-word table words c.args.args c.args.first c.args.at H S R G c.args.count c.requires.within c.requires.count (PutStructure c.in-PutStructure.y c.in-PutStructure.f) e c.requires.going in
     record {
       grew = c.structure-in-PutStructure.ensures.grew;
-      result = stuck-put-structure table words c.args.args c.args.first c.args.at H S R G c.args.count c.requires.within c.requires.count c.in-PutStructure.y c.in-PutStructure.f c.arity-of-n-in-PutStructure.result c.arity-of-n-in-PutStructure.ensures.value e go (rw c.if-not-structure-2.true at c.structure-in-PutStructure.ensures.result);
+      result = stuck-put-structure table words c.args.args c.args.first c.args.at H S R G c.args.count c.requires.within c.requires.count c.in-PutStructure.y c.in-PutStructure.f c.arity_of-n-in-PutStructure.result c.arity_of-n-in-PutStructure.ensures.value e go (rw c.if-not-structure-2.true at c.structure-in-PutStructure.ensures.result);
     }
 
 pub returns-else-not-structure-2 : goal.returns-else-not-structure-2
@@ -173,7 +173,7 @@ returns-else-not-structure-2 c =
     let go = going-word table words c.args.args c.args.first c.args.at H S R G c.args.count c.requires.within c.requires.count (PutStructure c.in-PutStructure.y c.in-PutStructure.f) e c.requires.going in
     record {
       grew = c.structure-in-PutStructure.ensures.grew;
-      result = advance-put-structure table words c.args.args c.args.first c.args.at H S R G c.args.count c.requires.within c.requires.count c.in-PutStructure.y c.in-PutStructure.f c.arity-of-n-in-PutStructure.result c.arity-of-n-in-PutStructure.ensures.value e (cells_of c.structure-in-PutStructure.new.store) c.structure-in-PutStructure.new.slots c.structure-in-PutStructure.auto.slots c.structure-in-PutStructure.ensures.long (rw c.if-not-structure-2.false at c.structure-in-PutStructure.ensures.result);
+      result = advance-put-structure table words c.args.args c.args.first c.args.at H S R G c.args.count c.requires.within c.requires.count c.in-PutStructure.y c.in-PutStructure.f c.arity_of-n-in-PutStructure.result c.arity_of-n-in-PutStructure.ensures.value e (cells_of c.structure-in-PutStructure.new.store) c.structure-in-PutStructure.new.slots c.structure-in-PutStructure.auto.slots c.structure-in-PutStructure.ensures.long (rw c.if-not-structure-2.false at c.structure-in-PutStructure.ensures.result);
     }
 
 pub bounds-puts-a : goal.bounds-puts-a
@@ -209,10 +209,10 @@ pass-requires c =
     let e = sym c.decode.ensures.value ∙ c.in-Call.is in
     let go = going-word table words c.args.args c.args.first c.args.at H S R G c.args.count c.requires.within c.requires.count (Call c.in-Call.p) e c.requires.going in
     record {
-      within = omega (arith, c.arity-of-n-in-Call.ensures.value, go.ready.1);
-      taken = call-taken table words c.args.args c.args.first c.args.at H S R G c.args.count c.requires.within c.requires.count c.in-Call.p c.arity-of-n-in-Call.result c.arity-of-n-in-Call.ensures.value go;
+      within = omega (arith, c.arity_of-n-in-Call.ensures.value, go.ready.1);
+      taken = call-taken table words c.args.args c.args.first c.args.at H S R G c.args.count c.requires.within c.requires.count c.in-Call.p c.arity_of-n-in-Call.result c.arity_of-n-in-Call.ensures.value go;
       inside = go.stands.inside;
-      room = omega (arith, c.arity-of-n-in-Call.ensures.value, go.ready.2, go.cells_room);
+      room = omega (arith, c.arity_of-n-in-Call.ensures.value, go.ready.2, go.cells_room);
     }
 
 pub bounds-goals-count : goal.bounds-goals-count
@@ -225,7 +225,7 @@ bounds-goals-count c =
     let table = c.args.table.now in
     let e = sym c.decode.ensures.value ∙ c.in-Call.is in
     let go = going-word table words c.args.args c.args.first c.args.at H S R G c.args.count c.requires.within c.requires.count (Call c.in-Call.p) e c.requires.going in
-    omega (arith, call-count table words c.args.args c.args.first c.args.at H S R G c.args.count c.requires.within c.requires.count c.in-Call.p c.arity-of-n-in-Call.result c.arity-of-n-in-Call.ensures.value c.requires.goals go, c.requires.goals)
+    omega (arith, call-count table words c.args.args c.args.first c.args.at H S R G c.args.count c.requires.within c.requires.count c.in-Call.p c.arity_of-n-in-Call.result c.arity_of-n-in-Call.ensures.value c.requires.goals go, c.requires.goals)
 
 pub returns-in-Call : goal.returns-in-Call
 returns-in-Call c =
@@ -239,8 +239,8 @@ returns-in-Call c =
     let go = going-word table words c.args.args c.args.first c.args.at H S R G c.args.count c.requires.within c.requires.count (Call c.in-Call.p) e c.requires.going in
     record {
       grew = c.pass.ensures.grew;
-      result = advance-call table words c.args.args c.args.first c.args.at H S R G c.args.count c.requires.within c.requires.count c.in-Call.p c.arity-of-n-in-Call.result c.arity-of-n-in-Call.ensures.value e c.requires.goals
-          (call-count table words c.args.args c.args.first c.args.at H S R G c.args.count c.requires.within c.requires.count c.in-Call.p c.arity-of-n-in-Call.result c.arity-of-n-in-Call.ensures.value c.requires.goals go)
+      result = advance-call table words c.args.args c.args.first c.args.at H S R G c.args.count c.requires.within c.requires.count c.in-Call.p c.arity_of-n-in-Call.result c.arity_of-n-in-Call.ensures.value e c.requires.goals
+          (call-count table words c.args.args c.args.first c.args.at H S R G c.args.count c.requires.within c.requires.count c.in-Call.p c.arity_of-n-in-Call.result c.arity_of-n-in-Call.ensures.value c.requires.goals go)
           (cells_of c.pass.new.store) c.pass.new.slots c.top-cell.result c.top-cell.ensures.value c.pass.auto.slots c.pass.ensures.long c.pass.ensures.result;
     }
 

@@ -12,16 +12,16 @@ loop-k-init c = building-none _ _ c.args.slots.now (op_at c.args.code.now c.args
 
 pub make-requires : goal.make-requires
 make-requires c = record {
-  taken = taken_at (op_at c.args.code.now c.args.at) c.args.n c.loop-k.k (length c.args.slots.now) (length c.loop-k.slots) c.operand-at.result c.operand-at.ensures c.loop-k.auto.slots (omega arith) c.requires.taken;
+  taken = taken_at (op_at c.args.code.now c.args.at) c.args.n c.loop-k.k (length c.args.slots.now) (length c.loop-k.slots) c.operand_at.result c.operand_at.ensures c.loop-k.auto.slots (omega arith) c.requires.taken;
   inside = c.loop-k.invariant.inside;
   room = omega (arith, c.loop-k.invariant.long, c.requires.room);
 }
 
 pub loop-k-preserved : goal.loop-k-preserved
 loop-k-preserved c =
-    building-more _ _ c.args.slots.now (op_at c.args.code.now c.args.at) c.loop-k.k (cells_of c.loop-k.store) (cells_of c.make.new.store) _ _ c.loop-k.slots c.make.new.slots c.operand-at.result
-    c.operand-at.ensures
-    (taken_at (op_at c.args.code.now c.args.at) c.args.n c.loop-k.k (length c.args.slots.now) (length c.loop-k.slots) c.operand-at.result c.operand-at.ensures c.loop-k.auto.slots (omega arith) c.requires.taken)
+    building-more _ _ c.args.slots.now (op_at c.args.code.now c.args.at) c.loop-k.k (cells_of c.loop-k.store) (cells_of c.make.new.store) _ _ c.loop-k.slots c.make.new.slots c.operand_at.result
+    c.operand_at.ensures
+    (taken_at (op_at c.args.code.now c.args.at) c.args.n c.loop-k.k (length c.args.slots.now) (length c.loop-k.slots) c.operand_at.result c.operand_at.ensures c.loop-k.auto.slots (omega arith) c.requires.taken)
     c.loop-k.auto.slots c.make.ensures.cells c.make.ensures.slots c.make.ensures.trail c.loop-k.invariant
 
 pub returns : goal.returns

@@ -10,13 +10,13 @@ use Rattle.entry.proofs.structures.read.Goals as goal
 pub loop-k-init : goal.loop-k-init
 loop-k-init c = reading-none _ _ c.args.slots.now (op_at c.args.code.now c.args.at) c.args.first c.requires.inside
 
-pub overflow-add-first : goal.overflow-add-first
-overflow-add-first c = let l = c.requires.cells c.loop-k.k (omega arith) in omega (arith, store-few c.args.store.now)
+pub overflow_add-first : goal.overflow_add-first
+overflow_add-first c = let l = c.requires.cells c.loop-k.k (omega arith) in omega (arith, store-few c.args.store.now)
 
 pub get-requires : goal.get-requires
 get-requires c = record {
   within = let l = c.requires.cells c.loop-k.k (omega arith) in omega (arith, c.loop-k.invariant.grew.more);
-  taken = taken_at (op_at c.args.code.now c.args.at) c.args.n c.loop-k.k (length c.args.slots.now) (length c.loop-k.slots) c.operand-at.result c.operand-at.ensures c.loop-k.auto.slots (omega arith) c.requires.taken;
+  taken = taken_at (op_at c.args.code.now c.args.at) c.args.n c.loop-k.k (length c.args.slots.now) (length c.loop-k.slots) c.operand_at.result c.operand_at.ensures c.loop-k.auto.slots (omega arith) c.requires.taken;
   inside = c.loop-k.invariant.inside;
   room = omega (arith, c.loop-k.invariant.long, c.requires.room);
 }
@@ -28,14 +28,14 @@ returns-then-not-get c =
       grew = grew_trans c.loop-k.invariant.grew c.get.ensures.grew;
       long = omega (arith, c.loop-k.invariant.long, c.get.ensures.long);
       inside = c.get.ensures.inside;
-      result = reading-fails _ _ c.args.slots.now (op_at c.args.code.now c.args.at) c.args.first c.loop-k.k (c.requires.cells c.loop-k.k (omega arith)) _ _ c.loop-k.slots c.operand-at.result c.operand-at.ensures c.loop-k.auto.slots c.loop-k.invariant
+      result = reading-fails _ _ c.args.slots.now (op_at c.args.code.now c.args.at) c.args.first c.loop-k.k (c.requires.cells c.loop-k.k (omega arith)) _ _ c.loop-k.slots c.operand_at.result c.operand_at.ensures c.loop-k.auto.slots c.loop-k.invariant
           c.args.n (omega arith) told;
     }
 
 pub loop-k-preserved : goal.loop-k-preserved
 loop-k-preserved c =
     let told = rw c.if-not-get.false at c.get.ensures.result in
-    reading-more _ _ c.args.slots.now (op_at c.args.code.now c.args.at) c.args.first c.loop-k.k (c.requires.cells c.loop-k.k (omega arith)) _ _ c.loop-k.slots c.operand-at.result c.operand-at.ensures c.loop-k.auto.slots c.loop-k.invariant
+    reading-more _ _ c.args.slots.now (op_at c.args.code.now c.args.at) c.args.first c.loop-k.k (c.requires.cells c.loop-k.k (omega arith)) _ _ c.loop-k.slots c.operand_at.result c.operand_at.ensures c.loop-k.auto.slots c.loop-k.invariant
     _ _ c.get.new.slots c.get.ensures.grew c.get.ensures.long c.get.ensures.inside told
 
 pub returns : goal.returns

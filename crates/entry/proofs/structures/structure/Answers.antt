@@ -52,8 +52,8 @@ returns-in-Node c = record {
 
 pub returns : goal.returns
 returns c = record {
-  grew = grew_trans c.write-place.ensures.grew c.get-slot.ensures.grew;
-  long = omega (arith, c.write-place.ensures.long, c.get-slot.ensures.long);
-  inside = c.get-slot.ensures.inside;
-  result = told-write _ _ _ c.args.slots.now c.write-place.new.slots c.get-slot.new.slots (op_at c.args.code.now c.args.at) c.args.symbol c.args.n c.args.y c.write-place.result c.get-slot.result c.write-place.ensures.result c.get-slot.ensures.result;
+  grew = grew_trans c.write-place.ensures.grew c.get_slot.ensures.grew;
+  long = omega (arith, c.write-place.ensures.long, c.get_slot.ensures.long);
+  inside = c.get_slot.ensures.inside;
+  result = told-write _ _ _ c.args.slots.now c.write-place.new.slots c.get_slot.new.slots (op_at c.args.code.now c.args.at) c.args.symbol c.args.n c.args.y c.write-place.result c.get_slot.result c.write-place.ensures.result c.get_slot.ensures.result;
 }

@@ -17,13 +17,13 @@ returns c =
     let b = c.build.ensures in
     let node = Node c.args.symbol c.args.n c.top-first.result in
     let room : length H₁ < 4224 = omega (arith, b.long, c.requires.room) in
-    let e : cells_of c.push-node.new.self ≡ H₁ ++ node ∷ [] = c.push-node.ensures.cells ∙ grown-room H₁ node room in
+    let e : cells_of c.push_node.new.self ≡ H₁ ++ node ∷ [] = c.push_node.ensures.cells ∙ grown-room H₁ node room in
     let long = ap length e ∙ length_push H₁ node in
     record {
-      grew = pushed_grew H H₁ _ _ _ _ node b.grew e c.push-node.ensures.trail;
+      grew = pushed_grew H H₁ _ _ _ _ node b.grew e c.push_node.ensures.trail;
       long = omega (arith, long, b.long);
       place = omega (arith, long, c.top-place.ensures.value);
-      inside = inside-long _ H₁ (cells_of c.push-node.new.self) (omega (arith, long)) b.inside;
-      result = built-structure H _ c.args.slots.now (op_at c.args.code.now c.args.at) c.args.symbol c.args.n c.top-place.result c.top-first.result H₁ (cells_of c.push-node.new.self) _ c.build.new.slots
+      inside = inside-long _ H₁ (cells_of c.push_node.new.self) (omega (arith, long)) b.inside;
+      result = built-structure H _ c.args.slots.now (op_at c.args.code.now c.args.at) c.args.symbol c.args.n c.top-place.result c.top-first.result H₁ (cells_of c.push_node.new.self) _ c.build.new.slots
           (record { grew = b.grew; long = b.long; spare = b.spare; inside = b.inside; rows = b.result }) c.top-first.ensures.value c.top-place.ensures.value e;
     }

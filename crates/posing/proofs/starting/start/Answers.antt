@@ -18,8 +18,8 @@ loop-i-init c =
       omega arith,
     )
 
-pub start-piece-next-requires : goal.start-piece-next-requires
-start-piece-next-requires c =
+pub start_piece-next-requires : goal.start_piece-next-requires
+start_piece-next-requires c =
     let pieces = c.args.pieces.now in
     let i = c.loop-i.i in
     let p = c.loop-i.invariant.0 in
@@ -43,8 +43,8 @@ loop-i-preserved c =
     let i = c.loop-i.i in
     let some : 0 < i = omega (arith, c.loop-i-test.true) in
     let le : i ≤ length pieces = c.loop-i.invariant.1 in (
-      subst (λ ps. Posing c.args.table.now c.args.slots.now ps (cells_of c.start-piece-next.new.store) c.start-piece-next.new.slots (from_top no_entry c.start-piece-next.new.stack c.start-piece-next.result.entries) (from_top no_goal c.start-piece-next.new.goals c.start-piece-next.result.goals))
-          (sym (piece-before pieces i some le)) (c.start-piece-next.ensures c.args.slots.now (drop i pieces) c.loop-i.invariant.0),
+      subst (λ ps. Posing c.args.table.now c.args.slots.now ps (cells_of c.start_piece-next.new.store) c.start_piece-next.new.slots (from_top no_entry c.start_piece-next.new.stack c.start_piece-next.result.entries) (from_top no_goal c.start_piece-next.new.goals c.start_piece-next.result.goals))
+          (sym (piece-before pieces i some le)) (c.start_piece-next.ensures c.args.slots.now (drop i pieces) c.loop-i.invariant.0),
       omega arith,
     )
 

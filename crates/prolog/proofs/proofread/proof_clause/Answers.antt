@@ -5,7 +5,7 @@ use Rattle.prolog.specs.declared.verdict.Verdict.TheVariants.{Clause}
 use Rattle.prolog.proofs.LineLaws.{clause-told}
 use Rattle.prolog.proofs.proofread.proof_clause.Goals as goal
 
-pub returns-in_ok-put_clause : goal.returns-in_ok-put_clause
-returns-in_ok-put_clause c =
+pub returns-in_ok-put_clause-in-Ok : goal.returns-in_ok-put_clause-in-Ok
+returns-in_ok-put_clause-in-Ok c =
     let l = c.in-Ok.clause in
-    clause-told c.args.number Clause (vec_items c.args.out.now) _ (terms_of l) l.goals c.in-Ok.ensures.counted.goals (read_clause c.args.line.now) c.in-Ok.ensures.value c.in_ok-put_clause.ensures
+    clause-told c.args.number Clause (vec_items c.args.out.now) _ (terms_of l) l.goals c.in-Ok.ensures.counted.goals (read_clause c.args.line.now) c.in-Ok.ensures.value c.in_ok-put_clause-in-Ok.ensures

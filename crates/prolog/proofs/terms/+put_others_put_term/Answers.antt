@@ -25,25 +25,25 @@ put_others-returns t c =
 pub put_term-returns-in_default : goal.put_term-returns-in_default
 put_term-returns-in_default t c = record { text = put-none (words_left c.args.tokens) (words_left c.args.tokens) (vec_items c.args.out.now) c.in_default.ensures.value; fewer = omega arith }
 
-pub put_term-returns-in_ok-put_atom : goal.put_term-returns-in_ok-put_atom
-put_term-returns-in_ok-put_atom t c =
+pub put_term-returns-in_ok-put_atom-in-Name : goal.put_term-returns-in_ok-put_atom-in-Name
+put_term-returns-in_ok-put_atom-in-Name t c =
     let is = c.in-Some.ensures.value ∙ ap (λ x. word x ∷ words_left c.next_token.new.self) c.in-Name.is in
     record {
       text = put-name (words_left c.args.tokens) (words_left c.next_token.new.self) (vec_items c.args.out.now) (vec_items c.put_atom.new.out) c.in-Name.name.now is c.in_ok-put_atom.ensures;
       fewer = omega (arith, ap length is);
     }
 
-pub put-term-returns-in-Continue-extend-from-slice :
-    goal.put_term-returns-in_ok-extend_from_slice
-put-term-returns-in-Continue-extend-from-slice t c =
+pub put_term-returns-in_ok-extend_from_slice-in-Variable :
+    goal.put_term-returns-in_ok-extend_from_slice-in-Variable
+put_term-returns-in_ok-extend_from_slice-in-Variable t c =
     let is = c.in-Some.ensures.value ∙ ap (λ x. word x ∷ words_left c.next_token.new.self) c.in-Variable.is in
     record {
       text = put-variable (words_left c.args.tokens) (words_left c.next_token.new.self) (vec_items c.args.out.now) (vec_items c.extend_from_slice.new.self) c.in-Variable.name.now is c.in_ok-extend_from_slice.ensures.items;
       fewer = omega (arith, ap length is);
     }
 
-pub put_term-returns-in_ok-push-2 : goal.put_term-returns-in_ok-push-2
-put_term-returns-in_ok-push-2 t c =
+pub put_term-returns-in_ok-push-in-Structure-2 : goal.put_term-returns-in_ok-push-in-Structure-2
+put_term-returns-in_ok-push-in-Structure-2 t c =
     let is = c.in-Some.ensures.value ∙ ap (λ x. word x ∷ words_left c.next_token.new.self) c.in-Structure.is in
     let first = c.in_ok-others.ensures in
     let more = c.in_ok-after.ensures in
