@@ -29,7 +29,7 @@ pub put_term-returns-in_ok-put_atom-in-Name : goal.put_term-returns-in_ok-put_at
 put_term-returns-in_ok-put_atom-in-Name t c =
     let is = c.in-Some.ensures.value ∙ ap (λ x. word x ∷ words_left c.next_token.new.self) c.in-Name.is in
     record {
-      text = put-name (words_left c.args.tokens) (words_left c.next_token.new.self) (vec_items c.args.out.now) (vec_items c.put_atom.new.out) c.in-Name.name.now is c.in_ok-put_atom.ensures;
+      text = put-name (words_left c.args.tokens) (words_left c.next_token.new.self) (vec_items c.args.out.now) (vec_items c.put_atom.new.out) c.in-Name.name.now is c.in_ok-put_atom-in-Name.ensures;
       fewer = omega (arith, ap length is);
     }
 
@@ -38,19 +38,19 @@ pub put_term-returns-in_ok-extend_from_slice-in-Variable :
 put_term-returns-in_ok-extend_from_slice-in-Variable t c =
     let is = c.in-Some.ensures.value ∙ ap (λ x. word x ∷ words_left c.next_token.new.self) c.in-Variable.is in
     record {
-      text = put-variable (words_left c.args.tokens) (words_left c.next_token.new.self) (vec_items c.args.out.now) (vec_items c.extend_from_slice.new.self) c.in-Variable.name.now is c.in_ok-extend_from_slice.ensures.items;
+      text = put-variable (words_left c.args.tokens) (words_left c.next_token.new.self) (vec_items c.args.out.now) (vec_items c.extend_from_slice.new.self) c.in-Variable.name.now is c.in_ok-extend_from_slice-in-Variable.ensures.items;
       fewer = omega (arith, ap length is);
     }
 
 pub put_term-returns-in_ok-push-in-Structure-2 : goal.put_term-returns-in_ok-push-in-Structure-2
 put_term-returns-in_ok-push-in-Structure-2 t c =
     let is = c.in-Some.ensures.value ∙ ap (λ x. word x ∷ words_left c.next_token.new.self) c.in-Structure.is in
-    let first = c.in_ok-others.ensures in
-    let more = c.in_ok-after.ensures in
+    let first = c.in_ok-others-in-Structure.ensures in
+    let more = c.in_ok-after-in-Structure.ensures in
     record {
       text =
-          put-structure (words_left c.args.tokens) (words_left c.next_token.new.self) (words_left c.in_ok-others.others) (words_left c.in_ok-after.after)
+          put-structure (words_left c.args.tokens) (words_left c.next_token.new.self) (words_left c.in_ok-others-in-Structure.others) (words_left c.in_ok-after-in-Structure.after)
           (vec_items c.args.out.now) (vec_items c.put_atom-in-Structure.new.out) (vec_items c.push.new.self) (vec_items c.put_term.new.out) (vec_items c.put_others.new.out) (vec_items c.push-in-Structure.new.self) c.in-Structure.name.now c.in-Structure.arity
-          is c.in_ok-put_atom-2.ensures c.in_ok-push.ensures.items first.text more.text c.in_ok-push-2.ensures.items;
+          is c.in_ok-put_atom-in-Structure.ensures c.in_ok-push-in-Structure.ensures.items first.text more.text c.in_ok-push-in-Structure-2.ensures.items;
       fewer = omega (arith, ap length is, first.fewer, more.fewer);
     }

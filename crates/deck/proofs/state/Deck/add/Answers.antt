@@ -14,122 +14,107 @@ use Rattle.symbols.proofs.NoteLaws.{begins-long}
 use Rattle.deck.proofs.AddLaws.{Spelt, spelt, adding-1, adding-2, adding-3, adding-ok, begins-take, line-more}
 use Rattle.symbols.proofs.NoteLaws.{fine-terms}
 use Rattle.deck.proofs.state.Deck.add.Goals as goal
-use Rattle.deck.proofs.state.Deck.add.Goals.{In-ok-clause, After-note-symbols}
+use Rattle.deck.proofs.state.Deck.add.Goals.{In_ok-clause, After-note_symbols}
 
 -- the clause that the line spells
-clause-of : (c : In-ok-clause) → Spelt c.args.line.now (terms_of c.in-ok-clause.clause)
-clause-of c = spelt c.args.line.now (terms_of c.in-ok-clause.clause) (omega (arith, c.in-ok-clause.ensures.counted.goals)) c.in-ok-clause.ensures.one-reading
+clause-of : (c : In_ok-clause) → Spelt c.args.line.now (terms_of c.in_ok-clause.clause)
+clause-of c = spelt c.args.line.now (terms_of c.in_ok-clause.clause) (omega (arith, c.in_ok-clause.ensures.counted.goals)) c.in_ok-clause.ensures.one_reading
 
-reads : (c : In-ok-clause) → Ok (clause-of c).clause ≡ read_clause c.args.line.now
-reads c = sym (clause-of c).is ∙ c.in-ok-clause.ensures.value
+reads : (c : In_ok-clause) → Ok (clause-of c).clause ≡ read_clause c.args.line.now
+reads c = sym (clause-of c).is ∙ c.in_ok-clause.ensures.value
 
-words_are : (c : In-ok-clause) → words_in (clause-of c).clause ≡ words_left c.in-ok-clause.clause.body
-words_are c = (clause-of c).words ∙ sym c.in-ok-clause.ensures.counted.tokens
+words_are : (c : In_ok-clause) → words_in (clause-of c).clause ≡ words_left c.in_ok-clause.clause.body
+words_are c = (clause-of c).words ∙ sym c.in_ok-clause.ensures.counted.tokens
 
-light : (c : In-ok-clause) → c.in-ok-clause.clause.weight ≤ 128
-light c = omega (arith, c.in-ok-clause.ensures.counted.weight, (clause-of c).proper.light)
+light : (c : In_ok-clause) → c.in_ok-clause.clause.weight ≤ 128
+light c = omega (arith, c.in_ok-clause.ensures.counted.weight, (clause-of c).proper.light)
 
 -- the contents with these symbols
 holding : (d e : Contents) → d.lines ≡ e.lines → d.symbols ≡ e.symbols → d.words ≡ e.words → d ≡ e
 holding d e p q r = ap₂ (λ ls (x : (s : Signature) × ℕ). record { lines = ls; symbols = x.0; words = x.1 }) p (ap₂ (λ s w. (s, w)) q r)
 
-pub returns-then-k-eq-CLAUSE-LIMIT : goal.returns-then-k-eq-CLAUSE-LIMIT
-returns-then-k-eq-CLAUSE-LIMIT c =
-    let s = (goal.at.returns-then-k-eq-CLAUSE-LIMIT c).In-ok-clause in
-    let e = adding-1 (contents c.args.self.now) c.args.line.now (clause-of s).clause (reads s) (up_to-long c.args.self.now.count (line_in c.args.self.now.bytes c.args.self.now.lens) ∙ c.if-k-eq-CLAUSE-LIMIT.true) in
+pub returns-then-k-eq-CLAUSE_LIMIT : goal.returns-then-k-eq-CLAUSE_LIMIT
+returns-then-k-eq-CLAUSE_LIMIT c =
+    let s = (goal.at.returns-then-k-eq-CLAUSE_LIMIT c).In_ok-clause in
+    let e = adding-1 (contents c.args.self.now) c.args.line.now (clause-of s).clause (reads s) (up_to-long c.args.self.now.count (line_in c.args.self.now.bytes c.args.self.now.lens) ∙ c.if-k-eq-CLAUSE_LIMIT.true) in
     record { value = sym (ap (λ r. reply r tt) e); after = sym (ap (after (contents c.args.self.now)) e) }
 
-pub note-symbols-requires : goal.note-symbols-requires
-note-symbols-requires c =
-    let s = (goal.at.note-symbols-requires c).In-ok-clause in
-    record { limit = omega arith; fine = subst Fines (sym c.in-ok-clause.ensures.counted.tokens) (fine-terms (terms_of c.in-ok-clause.clause) [] (clause-of s).proper.good tt) }
+pub note_symbols-requires : goal.note_symbols-requires
+note_symbols-requires c =
+    let s = (goal.at.note_symbols-requires c).In_ok-clause in
+    record { limit = omega arith; fine = subst Fines (sym c.in_ok-clause.ensures.counted.tokens) (fine-terms (terms_of c.in_ok-clause.clause) [] (clause-of s).proper.good tt) }
 
 -- the symbols noted are not too many
-noted-few : (c : After-note-symbols) → c.note-symbols.new.symbols.len ≤ 256
-noted-few c = omega (arith, signature-long c.note-symbols.new.symbols, c.note-symbols.ensures.within (omega (arith, signature-long c.args.self.now.symbols, c.args.self.now.known)))
+noted-few : (c : After-note_symbols) → c.note_symbols.new.symbols.len ≤ 256
+noted-few c = omega (arith, signature-long c.note_symbols.new.symbols, c.note_symbols.ensures.within (omega (arith, signature-long c.args.self.now.symbols, c.args.self.now.known)))
 
 pub invariant_of-self : goal.invariant_of-self
-invariant_of-self c = (
-  c.args.self.now.few,
-  (omega (arith, signature-long c.truncate.new.self, ap length c.truncate.ensures, length-take c.len-len.result (signature c.note-symbols.new.symbols), signature-long c.note-symbols.new.symbols, noted-few (goal.at.invariant_of-self c).After-note-symbols), (c.args.self.now.short, (c.args.self.now.light, tt))),
-)
+invariant_of-self c = record { few = c.args.self.now.few; known = omega (arith, signature-long c.truncate.new.self, ap length c.truncate.ensures, length-take c.len-len.result (signature c.note_symbols.new.symbols), signature-long c.note_symbols.new.symbols, noted-few (goal.at.invariant_of-self c).After-note_symbols); short = c.args.self.now.short; light = c.args.self.now.light }
 
 pub invariant_of-self-then-words-gt-WORD-LIMIT : goal.invariant_of-self-then-words-gt-WORD-LIMIT
 invariant_of-self-then-words-gt-WORD-LIMIT c = (
   c.args.self.now.few,
-  (omega (arith, signature-long c.truncate-then-words-gt-WORD-LIMIT.new.self, ap length c.truncate-then-words-gt-WORD-LIMIT.ensures, length-take c.len-len.result (signature c.note-symbols.new.symbols), signature-long c.note-symbols.new.symbols, noted-few (goal.at.invariant_of-self-then-words-gt-WORD-LIMIT c).After-note-symbols), (c.args.self.now.short, (c.args.self.now.light, tt))),
+  (omega (arith, signature-long c.truncate-then-words-gt-WORD_LIMIT.new.self, ap length c.truncate-then-words-gt-WORD_LIMIT.ensures, length-take c.len-len.result (signature c.note_symbols.new.symbols), signature-long c.note_symbols.new.symbols, noted-few (goal.at.invariant_of-self-then-words-gt-WORD-LIMIT c).After-note_symbols), (c.args.self.now.short, (c.args.self.now.light, tt))),
 )
 
 pub truncate-requires : goal.truncate-requires
-truncate-requires c = omega (arith, c.len-len.ensures.value, begins-long c.note-symbols.ensures.begins)
+truncate-requires c = omega (arith, c.len-len.ensures.value, begins-long c.note_symbols.ensures.begins)
 
-pub returns-then-not-note-symbols : goal.returns-then-not-note-symbols
-returns-then-not-note-symbols c =
-    let s = (goal.at.returns-then-not-note-symbols c).In-ok-clause in
-    let over : 256 < length (note_words (signature c.args.self.now.symbols) (words_in (clause-of s).clause)) = omega (arith, c.note-symbols.ensures.full c.if-not-note-symbols.true, ap (λ ws. length (note_words (signature c.args.self.now.symbols) ws)) (words_are s)) in
-    let e = adding-2 (contents c.args.self.now) c.args.line.now (clause-of s).clause (reads s) (omega (arith, up_to-long c.args.self.now.count (line_in c.args.self.now.bytes c.args.self.now.lens), c.args.self.now.few, c.if-k-eq-CLAUSE-LIMIT.false)) over in
+pub returns-then-not-note_symbols : goal.returns-then-not-note_symbols
+returns-then-not-note_symbols c =
+    let s = (goal.at.returns-then-not-note_symbols c).In_ok-clause in
+    let over : 256 < length (note_words (signature c.args.self.now.symbols) (words_in (clause-of s).clause)) = omega (arith, c.note_symbols.ensures.full c.if-not-note_symbols.true, ap (λ ws. length (note_words (signature c.args.self.now.symbols) ws)) (words_are s)) in
+    let e = adding-2 (contents c.args.self.now) c.args.line.now (clause-of s).clause (reads s) (omega (arith, up_to-long c.args.self.now.count (line_in c.args.self.now.bytes c.args.self.now.lens), c.args.self.now.few, c.if-k-eq-CLAUSE_LIMIT.false)) over in
     record {
       value = sym (ap (λ r. reply r tt) e);
-      after = holding _ (contents c.args.self.now) refl (c.truncate.ensures ∙ begins-take c.len-len.result c.note-symbols.ensures.begins c.len-len.ensures.value) refl ∙ sym (ap (after (contents c.args.self.now)) e);
+      after = holding _ (contents c.args.self.now) refl (c.truncate.ensures ∙ begins-take c.len-len.result c.note_symbols.ensures.begins c.len-len.ensures.value) refl ∙ sym (ap (after (contents c.args.self.now)) e);
     }
 
-pub overflow-add-words : goal.overflow-add-words
-overflow-add-words c = omega (arith, light (goal.at.overflow-add-words c).In-ok-clause)
+pub overflow_add-words : goal.overflow_add-words
+overflow_add-words c = omega (arith, light (goal.at.overflow_add-words c).In_ok-clause)
 
-pub overflow-add-words-2 : goal.overflow-add-words-2
-overflow-add-words-2 c = omega (arith, light (goal.at.overflow-add-words-2 c).In-ok-clause, c.args.self.now.light)
+pub overflow_add-words-2 : goal.overflow_add-words-2
+overflow_add-words-2 c = omega (arith, light (goal.at.overflow_add-words-2 c).In_ok-clause, c.args.self.now.light)
 
-pub truncate-requires-then-words-gt-WORD-LIMIT : goal.truncate-requires-then-words-gt-WORD-LIMIT
-truncate-requires-then-words-gt-WORD-LIMIT c = omega (arith, c.len-len.ensures.value, begins-long c.note-symbols.ensures.begins)
+pub truncate-requires-then-words-gt-WORD_LIMIT : goal.truncate-requires-then-words-gt-WORD_LIMIT
+truncate-requires-then-words-gt-WORD_LIMIT c = omega (arith, c.len-len.ensures.value, begins-long c.note_symbols.ensures.begins)
 
-pub returns-then-words-gt-WORD-LIMIT : goal.returns-then-words-gt-WORD-LIMIT
-returns-then-words-gt-WORD-LIMIT c =
-    let s = (goal.at.returns-then-words-gt-WORD-LIMIT c).In-ok-clause in
-    let noted = c.note-symbols.ensures.noted c.if-not-note-symbols.false ∙ ap (note_words (signature c.args.self.now.symbols)) (sym (words_are s)) in
-    let e = adding-3 (contents c.args.self.now) c.args.line.now (clause-of s).clause (reads s) (omega (arith, up_to-long c.args.self.now.count (line_in c.args.self.now.bytes c.args.self.now.lens), c.args.self.now.few, c.if-k-eq-CLAUSE-LIMIT.false))
-    (omega (arith, ap length noted, c.note-symbols.ensures.within (omega (arith, signature-long c.args.self.now.symbols, c.args.self.now.known))))
-    (omega (arith, (clause-of s).weight, c.in-ok-clause.ensures.counted.weight, c.if-words-gt-WORD-LIMIT.true)) in
+pub returns-then-words-gt-WORD_LIMIT : goal.returns-then-words-gt-WORD_LIMIT
+returns-then-words-gt-WORD_LIMIT c =
+    let s = (goal.at.returns-then-words-gt-WORD_LIMIT c).In_ok-clause in
+    let noted = c.note_symbols.ensures.noted c.if-not-note_symbols.false ∙ ap (note_words (signature c.args.self.now.symbols)) (sym (words_are s)) in
+    let e = adding-3 (contents c.args.self.now) c.args.line.now (clause-of s).clause (reads s) (omega (arith, up_to-long c.args.self.now.count (line_in c.args.self.now.bytes c.args.self.now.lens), c.args.self.now.few, c.if-k-eq-CLAUSE_LIMIT.false))
+    (omega (arith, ap length noted, c.note_symbols.ensures.within (omega (arith, signature-long c.args.self.now.symbols, c.args.self.now.known))))
+    (omega (arith, (clause-of s).weight, c.in_ok-clause.ensures.counted.weight, c.if-words-gt-WORD_LIMIT.true)) in
     record {
       value = sym (ap (λ r. reply r tt) e);
-      after = holding _ (contents c.args.self.now) refl (c.truncate-then-words-gt-WORD-LIMIT.ensures ∙ begins-take c.len-len.result c.note-symbols.ensures.begins c.len-len.ensures.value) refl ∙ sym (ap (after (contents c.args.self.now)) e);
+      after = holding _ (contents c.args.self.now) refl (c.truncate-then-words-gt-WORD_LIMIT.ensures ∙ begins-take c.len-len.result c.note_symbols.ensures.begins c.len-len.ensures.value) refl ∙ sym (ap (after (contents c.args.self.now)) e);
     }
 
-pub write-line-requires : goal.write-line-requires
-write-line-requires c =
+pub write_line-requires : goal.write_line-requires
+write_line-requires c =
     let long : length c.args.self.now.bytes ≡ 131072 = search rules in
-    omega (arith, (clause-of (goal.at.write-line-requires c).In-ok-clause).short, c.args.self.now.few, c.if-k-eq-CLAUSE-LIMIT.false)
+    omega (arith, (clause-of (goal.at.write_line-requires c).In_ok-clause).short, c.args.self.now.few, c.if-k-eq-CLAUSE_LIMIT.false)
 
-pub overflow-cast-self : goal.overflow-cast-self
-overflow-cast-self c = omega (arith, (clause-of (goal.at.overflow-cast-self c).In-ok-clause).short)
+pub overflow_cast-self : goal.overflow_cast-self
+overflow_cast-self c = omega (arith, (clause-of (goal.at.overflow_cast-self c).In_ok-clause).short)
 
 pub invariant_of-self-2 : goal.invariant_of-self-2
-invariant_of-self-2 c = (
-  omega (arith, c.args.self.now.few, c.if-k-eq-CLAUSE-LIMIT.false),
-  (
-    noted-few (goal.at.invariant_of-self-2 c).After-note-symbols,
-    (
-      set_below c.args.self.now.lens c.args.self.now.count (length c.args.line.now) 512 c.args.self.now.short (clause-of (goal.at.invariant_of-self-2 c).In-ok-clause).short,
-      (
-        omega (arith, c.if-words-gt-WORD-LIMIT.false),
-        tt,
-      ),
-    ),
-  ),
-)
+invariant_of-self-2 c = record { few = omega (arith, c.args.self.now.few, c.if-k-eq-CLAUSE_LIMIT.false); known = noted-few (goal.at.invariant_of-self-2 c).After-note_symbols; short = set_below c.args.self.now.lens c.args.self.now.count (length c.args.line.now) 512 c.args.self.now.short (clause-of (goal.at.invariant_of-self-2 c).In_ok-clause).short; light = omega (arith, c.if-words-gt-WORD_LIMIT.false) }
 
 pub returns : goal.returns
 returns c =
-    let s = (goal.at.returns c).In-ok-clause in
-    let noted = c.note-symbols.ensures.noted c.if-not-note-symbols.false ∙ ap (note_words (signature c.args.self.now.symbols)) (sym (words_are s)) in
-    let weight : c.in-ok-clause.clause.weight ≡ clause_weight (clause-of s).clause = c.in-ok-clause.ensures.counted.weight ∙ sym (clause-of s).weight in
-    let e = adding-ok (contents c.args.self.now) c.args.line.now (clause-of s).clause (reads s) (omega (arith, up_to-long c.args.self.now.count (line_in c.args.self.now.bytes c.args.self.now.lens), c.args.self.now.few, c.if-k-eq-CLAUSE-LIMIT.false))
-    (omega (arith, ap length noted, c.note-symbols.ensures.within (omega (arith, signature-long c.args.self.now.symbols, c.args.self.now.known))))
-    (omega (arith, weight, c.if-words-gt-WORD-LIMIT.false)) in
+    let s = (goal.at.returns c).In_ok-clause in
+    let noted = c.note_symbols.ensures.noted c.if-not-note_symbols.false ∙ ap (note_words (signature c.args.self.now.symbols)) (sym (words_are s)) in
+    let weight : c.in_ok-clause.clause.weight ≡ clause_weight (clause-of s).clause = c.in_ok-clause.ensures.counted.weight ∙ sym (clause-of s).weight in
+    let e = adding-ok (contents c.args.self.now) c.args.line.now (clause-of s).clause (reads s) (omega (arith, up_to-long c.args.self.now.count (line_in c.args.self.now.bytes c.args.self.now.lens), c.args.self.now.few, c.if-k-eq-CLAUSE_LIMIT.false))
+    (omega (arith, ap length noted, c.note_symbols.ensures.within (omega (arith, signature-long c.args.self.now.symbols, c.args.self.now.known))))
+    (omega (arith, weight, c.if-words-gt-WORD_LIMIT.false)) in
     record {
       value = sym (ap (λ r. reply r tt) e);
       after =
           holding _ (extended (contents c.args.self.now) c.args.line.now (clause-of s).clause)
-          (line-more c.args.self.now.bytes c.write-line.new.out c.args.self.now.lens c.args.self.now.count c.args.line.now (search rules) c.write-line.ensures.same c.write-line.ensures.line c.args.self.now.short)
+          (line-more c.args.self.now.bytes c.write_line.new.out c.args.self.now.lens c.args.self.now.count c.args.line.now (search rules) c.write_line.ensures.same c.write_line.ensures.line c.args.self.now.short)
           noted (ap (λ w. c.args.self.now.words + (w + 2)) weight)
           ∙ sym (ap (after (contents c.args.self.now)) e);
     }
