@@ -51,11 +51,13 @@ noted-few c = omega (arith, signature-long c.note_symbols.new.symbols, c.note_sy
 pub invariant_of-self : goal.invariant_of-self
 invariant_of-self c = record { few = c.args.self.now.few; known = omega (arith, signature-long c.truncate.new.self, ap length c.truncate.ensures, length-take c.len-len.result (signature c.note_symbols.new.symbols), signature-long c.note_symbols.new.symbols, noted-few (goal.at.invariant_of-self c).After-note_symbols); short = c.args.self.now.short; light = c.args.self.now.light }
 
-pub invariant_of-self-then-words-gt-WORD-LIMIT : goal.invariant_of-self-then-words-gt-WORD-LIMIT
-invariant_of-self-then-words-gt-WORD-LIMIT c = (
-  c.args.self.now.few,
-  (omega (arith, signature-long c.truncate-then-words-gt-WORD_LIMIT.new.self, ap length c.truncate-then-words-gt-WORD_LIMIT.ensures, length-take c.len-len.result (signature c.note_symbols.new.symbols), signature-long c.note_symbols.new.symbols, noted-few (goal.at.invariant_of-self-then-words-gt-WORD-LIMIT c).After-note_symbols), (c.args.self.now.short, (c.args.self.now.light, tt))),
-)
+pub invariant_of-self-then-words-gt-WORD_LIMIT : goal.invariant_of-self-then-words-gt-WORD_LIMIT
+invariant_of-self-then-words-gt-WORD_LIMIT c = record {
+  few = c.args.self.now.few;
+  known = omega (arith, signature-long c.truncate-then-words-gt-WORD_LIMIT.new.self, ap length c.truncate-then-words-gt-WORD_LIMIT.ensures, length-take c.len-len.result (signature c.note_symbols.new.symbols), signature-long c.note_symbols.new.symbols, noted-few (goal.at.invariant_of-self-then-words-gt-WORD_LIMIT c).After-note_symbols);
+  short = c.args.self.now.short;
+  light = c.args.self.now.light;
+}
 
 pub truncate-requires : goal.truncate-requires
 truncate-requires c = omega (arith, c.len-len.ensures.value, begins-long c.note_symbols.ensures.begins)
