@@ -1,5 +1,5 @@
 -- A term written field by field, turn by turn.
-use Rattle.std.proofs.Common.{◌≡◌, ℕ, ◌+◌, ◌<◌, eqb, List, [], ◌∷◌, ◌++◌, length, sym, refl, ap, ◌∙◌, subst, arith}
+use Rattle.std.proofs.Common.{◌≡◌, ℕ, ◌<◌, eqb, List, [], ◌∷◌, ◌++◌, length, sym, refl, ap, ◌∙◌, subst, arith}
 use Rattle.std.proofs.lemmas.List.{append_assoc, append-nil}
 use Rattle.horn.specs.Terms.{Terms, node, nil, cons, join}
 use Rattle.horn.specs.Answers.{note, through, throughs}
@@ -8,7 +8,7 @@ use Rattle.heap.specs.declared.cell.Cell.TheVariants.{Unbound, Ref, Node}
 use Rattle.heap.specs.Heaps.{Heap, Closed, cell}
 use Rattle.heap.specs.Solutions.{Naming, Valuation, Sol, Says, Root, span}
 use Rattle.heap.proofs.HeapLaws.{node-within}
-use Rattle.heap.proofs.SpanLaws.{size, sizes, span-size}
+use Rattle.heap.proofs.SpanLaws.{size, span-size}
 use Rattle.answers.specs.declared.frame.Frame.{Frame}
 use Rattle.answers.specs.Frames.{Stands, field_at, seen_at, frame_at, added, pending}
 use Rattle.answers.specs.Streams.{written, writtens}

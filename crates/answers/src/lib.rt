@@ -1,4 +1,6 @@
 // The answer writer: the terms that cells stand for, as a line in a lent buffer.
+#![tactic(auto)]
+
 mod buffer;
 mod bytes;
 mod fields;

@@ -6,7 +6,7 @@ use mathlib.Core.WellFounded.{Acc-prop}
 use denote.Struct.Props.{props}
 use Rattle.heap.specs.declared.cell.Cell.{Cell}
 use Rattle.matching.specs.declared.trail.Trail.{Trail}
-use Rattle.cells.specs.States.{Fine, Sane}
+use Rattle.cells.specs.States.{Sane}
 
 pub unsealed : (cells : List Cell) (top : ℕ) (trail : Trail) → ∥ Sane cells top trail ∥₁ → Sane cells top trail
 unsealed cells top trail t = record {

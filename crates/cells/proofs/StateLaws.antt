@@ -1,5 +1,5 @@
 -- Laws of the cells in use.
-use Rattle.std.proofs.Common.{◌≡◌, ℕ, zero, suc, ◌+◌, ◌-◌, ◌<◌, ◌≤◌, Bool, true, false, cond, ltb, List, [], ◌∷◌, ◌++◌, length, get_or, take, drop, set, replicate, Some, None, MatchBool, Option, sym, refl, ap, ◌∙◌, subst, arith, length-append, length-drop, length-set}
+use Rattle.std.proofs.Common.{◌≡◌, ℕ, ◌+◌, ◌<◌, ◌≤◌, Bool, cond, List, [], ◌∷◌, ◌++◌, length, take, drop, set, replicate, Some, None, MatchBool, sym, ap, ◌∙◌, subst, arith, length-append, length-drop, length-set}
 use lib.ListN.{length-replicate}
 use Rattle.std.proofs.lemmas.List.{length-take-le, length_push, take_more_set, take_at, take-append-le}
 use Rattle.std.proofs.lemmas.Bool.{lt-ltb}

@@ -1,11 +1,10 @@
 -- Laws of a structure that is made of references to its arguments.
-use Rattle.std.proofs.Common.{◌≡◌, ℕ, zero, suc, ◌+◌, ◌-◌, ◌<◌, ◌≤◌, Bool, true, false, cond, List, [], ◌∷◌, ◌++◌, map, length, get_or, take, Some, None, Option, sym, refl, ap, ◌∙◌, subst, ap₂, append_assoc, arith, length-append}
+use Rattle.std.proofs.Common.{◌≡◌, ℕ, ◌+◌, ◌-◌, ◌<◌, ◌≤◌, true, cond, List, [], ◌∷◌, ◌++◌, map, length, get_or, take, Some, None, Option, sym, refl, ap, ◌∙◌, ap₂, append_assoc, arith, length-append}
 use Rattle.std.proofs.lemmas.List.{map_more, length-map, length-take-le, take_all}
 use Rattle.std.proofs.lemmas.Bool.{lt-ltb}
 use Rattle.heap.specs.Limits.{cell_limit}
 use Rattle.heap.specs.Heaps.{Heap, total, arity}
-use Rattle.heap.specs.declared.cell.Cell.{Cell}
-use Rattle.heap.specs.declared.cell.Cell.TheVariants.{Unbound, Ref, Node}
+use Rattle.heap.specs.declared.cell.Cell.TheVariants.{Ref, Node}
 use Rattle.cells.specs.States.{Fine}
 use Rattle.cells.specs.Growth.{placed, grown, fits, structured, Spare}
 use Rattle.cells.proofs.StateLaws.{placed-room, grown-room}

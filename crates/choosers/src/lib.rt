@@ -1,4 +1,6 @@
 // Choosers: which clause is tried next for a goal, by its predicate and its first argument.
+#![tactic(auto)]
+
 mod chains;
 mod chooser;
 mod every;

@@ -1,5 +1,5 @@
 -- V2 in turns.
-use Rattle.std.proofs.Common.{◌≡◌, ℕ, ◌+◌, ◌-◌, ◌<◌, Bool, false, ◌&&◌, eqb, leb, List, ◌∷◌, map, length, get_or, drop, sym, ap, ◌∙◌, ap₂, arith}
+use Rattle.std.proofs.Common.{◌≡◌, ℕ, ◌+◌, ◌<◌, Bool, false, ◌&&◌, eqb, leb, List, ◌∷◌, map, length, get_or, drop, sym, ap, ◌∙◌, ap₂, arith}
 use Rattle.std.proofs.lemmas.List.{at_drop_more, at_drop_all, length-map}
 use Rattle.code.specs.Instructions.{number}
 use Rattle.code.specs.Words.{decode}

@@ -1,4 +1,6 @@
 // The code of a clause: instructions, their words, and the rules that they keep.
+#![tactic(auto)]
+
 mod arguments;
 mod frame;
 mod instructions;

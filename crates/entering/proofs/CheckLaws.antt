@@ -1,20 +1,20 @@
 -- Code that keeps the rules is ready to run.
-use Rattle.std.proofs.Common.{◌≡◌, ℕ, zero, suc, ◌+◌, ◌-◌, ◌<◌, ◌≤◌, Bool, true, false, cond, not, ◌&&◌, ◌||◌, eqb, ltb, leb, ◌≢◌, ◌⊎◌, List, [], ◌∷◌, map, length, get_or, sym, refl, ap, ◌∙◌, subst, inl, inr, arith}
+use Rattle.std.proofs.Common.{◌≡◌, ℕ, zero, suc, ◌+◌, ◌-◌, ◌<◌, ◌≤◌, Bool, true, false, cond, ◌&&◌, ◌||◌, eqb, ltb, leb, ◌≢◌, List, [], ◌∷◌, map, length, get_or, sym, refl, ap, ◌∙◌, subst, inl, inr, arith}
 use native.Mathlib.Decide.{ℕ_discrete, dec_lt}
 use lib.ListN.{length-map}
-use Rattle.std.proofs.lemmas.Bool.{and_parts, or_cases, eqb-true, eq-eqb, leb-true, ltb-true}
+use Rattle.std.proofs.lemmas.Bool.{and_parts, eqb-true, leb-true, ltb-true}
 use Rattle.code.specs.declared.instructions.Operand.{Operand}
 use Rattle.code.specs.declared.instructions.Operand.TheVariants.{Fresh, Known, Constant}
 use Rattle.code.specs.declared.instructions.Instruction.{Instruction}
 use Rattle.code.specs.declared.instructions.Instruction.TheVariants.{Allocate, Get, GetStructure, Unify, Put, PutStructure, Set, Call, Proceed}
-use Rattle.code.specs.Instructions.{number, within, got, put, called}
-use Rattle.code.specs.Tests.{every, total, run, along, below, chosen}
+use Rattle.code.specs.Instructions.{number, within, got, put}
+use Rattle.code.specs.Tests.{every, total, run, along, below}
 use Rattle.code.specs.Words.{decode}
-use Rattle.code.specs.Rules.{opened, ranged, unifies, builds, closes, v2, v4, filled, v6}
+use Rattle.code.specs.Rules.{opened, ranged, unifies, builds, closes, v2, v4, filled}
 use Rattle.code.specs.Rules.{calls as calls_kept}
 use Rattle.code.proofs.RangeLaws.{all-ranged}
 use Rattle.entering.specs.Turns.{Takes}
-use Rattle.entering.specs.Ready.{In, operand_of, Piece, Pieces, Ready, price, dues, leaves, calls}
+use Rattle.entering.specs.Ready.{In, Piece, Pieces, Ready, price, dues, leaves, calls}
 use Rattle.entering.specs.Checks.{Extends, Runnable}
 
 never : {A : Type 0} → false ≡ true → A

@@ -1,7 +1,6 @@
 -- From the first instruction to the last.
-use Rattle.std.proofs.Common.{◌≡◌, ℕ, zero, suc, ◌+◌, ◌-◌, ◌<◌, ◌≤◌, List, [], ◌∷◌, ◌++◌, length, get_or, Some, None, Option, sym, refl, ap, ◌∙◌, subst, ap₂, arith}
-use Rattle.std.specs.List.{AllByRecursion as All}
-use Rattle.horn.specs.Terms.{Term, Terms, var, node, nil, cons, join}
+use Rattle.std.proofs.Common.{◌≡◌, ℕ, ◌+◌, ◌-◌, ◌≤◌, List, [], length, get_or, Some, None, Option, sym, ap, ◌∙◌, arith}
+use Rattle.horn.specs.Terms.{Term, Terms, var}
 use Rattle.horn.proofs.JoinLaws.{join-nil}
 use Rattle.heap.specs.Limits.{cell_limit}
 use Rattle.heap.specs.Heaps.{Heap, Closed}
@@ -9,13 +8,13 @@ use Rattle.heap.specs.Solutions.{Valuation, Sol, span}
 use Rattle.heap.proofs.SpanLaws.{span_ext}
 use Rattle.code.specs.declared.instructions.Operand.{Operand}
 use Rattle.code.specs.declared.instructions.Instruction.{Instruction}
-use Rattle.code.specs.Meaning.{Symbols, Terming, Says, goals, Runs, span as term_span}
+use Rattle.code.specs.Meaning.{Symbols, Terming, goals, Runs, span as term_span}
 use Rattle.entering.specs.declared.goal.Goal.{Goal}
 use Rattle.entering.specs.Goals.{vals, Names, Typed, Good}
-use Rattle.entering.specs.Entries.{Same, Entered, Denied}
-use Rattle.entering.specs.Turns.{Slots, Inside, Fits, Stands}
+use Rattle.entering.specs.Entries.{Entered, Denied}
+use Rattle.entering.specs.Turns.{Slots, Inside, Fits}
 use Rattle.entering.specs.Ready.{Ready, dues, calls}
-use Rattle.entering.specs.States.{laid, State, state, Setting, setting, Suits, Steps, Stuck, Going, Stepped}
+use Rattle.entering.specs.States.{laid, state, Setting, setting, Suits, Steps, Stuck, Going}
 use Rattle.entering.proofs.ReadyLaws.{span-is, goals-agree}
 
 -- the arguments of a goal

@@ -1,9 +1,9 @@
 -- Laws of keys.
-use Rattle.std.proofs.Common.{◌≡◌, ℕ, zero, suc, ◌+◌, ◌-◌, ◌<◌, ◌≤◌, Bool, true, false, cond, eqb, List, [], ◌∷◌, map, length, get_or, Some, None, Option, sym, refl, ap, ◌∙◌, subst, arith}
+use Rattle.std.proofs.Common.{◌≡◌, ℕ, zero, suc, ◌+◌, ◌-◌, ◌<◌, Bool, true, false, cond, eqb, List, [], ◌∷◌, map, length, get_or, Some, None, sym, refl, ap, ◌∙◌, subst, arith}
 use Rattle.std.proofs.lemmas.Bool.{eqb-true}
-use Rattle.horn.specs.Terms.{Term, Terms, node, nil, cons, count}
-use Rattle.heap.specs.Heaps.{Heap, cell}
-use Rattle.heap.specs.Solutions.{Valuation, Sol, Says as CellSays, Root, span}
+use Rattle.horn.specs.Terms.{Term, Terms, node, nil, count}
+use Rattle.heap.specs.Heaps.{cell}
+use Rattle.heap.specs.Solutions.{Valuation, Says as CellSays, span}
 use Rattle.heap.specs.declared.cell.Cell.{Cell}
 use Rattle.heap.specs.declared.cell.Cell.TheVariants.{Unbound, Ref, Node}
 use Rattle.heap.proofs.SpanLaws.{span-at}
@@ -14,11 +14,10 @@ use Rattle.code.specs.declared.instructions.Instruction.TheVariants.{Allocate, G
 use Rattle.code.specs.Words.{decode}
 use Rattle.code.specs.Rules.{structure_on, key_by, key_of, opened}
 use Rattle.code.specs.Tests.{chosen}
-use Rattle.code.specs.Meaning.{Symbols, Terming, given, parts, Says, Runs, span as term_span}
-use Rattle.entering.specs.declared.goal.Goal.{Goal}
-use Rattle.entering.specs.Goals.{Names, Typed, Good}
+use Rattle.code.specs.Meaning.{Symbols, Terming, given, parts, Says}
+use Rattle.entering.specs.Goals.{Names}
 use Rattle.entering.specs.Ready.{operand_of, Pieces, Ready}
-use Rattle.entering.specs.Keys.{key_in, Clash, KeyDenies}
+use Rattle.entering.specs.Keys.{key_in, KeyDenies}
 use Rattle.entering.proofs.ReadyLaws.{span-is, parts-span}
 use Rattle.entering.proofs.CheckLaws.{runnable-ready}
 

@@ -1,16 +1,15 @@
 -- A cell for an operand, and a cell that is made equal to one.
-use Rattle.std.proofs.Common.{◌≡◌, ℕ, zero, suc, ◌+◌, ◌<◌, ◌≤◌, ◌≢◌, List, [], ◌∷◌, ◌++◌, length, get_or, set, Some, None, Option, sym, refl, ap, ◌∙◌, subst, ap₂, arith}
+use Rattle.std.proofs.Common.{◌≡◌, ℕ, zero, suc, ◌<◌, List, [], ◌∷◌, ◌++◌, length, get_or, set, Some, None, Option, sym, refl, ap, ◌∙◌, subst, ap₂, arith}
 use Rattle.std.proofs.lemmas.List.{length_push}
-use Rattle.horn.specs.Terms.{Term, Terms, var, node, nil, cons}
-use Rattle.heap.specs.Heaps.{Heap, cell, Closed, Rooted}
+use Rattle.horn.specs.Terms.{Terms, node, nil}
+use Rattle.heap.specs.Heaps.{Heap, cell}
 use Rattle.heap.specs.Solutions.{Valuation, Sol, Says, Root, Apart, span}
-use Rattle.heap.specs.declared.cell.Cell.{Cell}
 use Rattle.heap.specs.declared.cell.Cell.TheVariants.{Unbound, Ref, Node}
 use Rattle.matching.specs.Unifies.{Unified}
 use Rattle.code.specs.declared.instructions.Operand.{Operand}
 use Rattle.code.specs.declared.instructions.Operand.TheVariants.{Fresh, Known, Constant}
-use Rattle.code.specs.Meaning.{Symbols, Terming, given}
-use Rattle.entering.specs.Goals.{Names, Typed}
+use Rattle.code.specs.Meaning.{Symbols, Terming}
+use Rattle.entering.specs.Goals.{Names}
 use Rattle.entering.specs.Entries.{Same}
 use Rattle.entering.specs.Turns.{Slots, Fits, Claim, Nothing, Stands, Turned, Unmet, Takes, Taken, Is, slot_cell, slot_set, celled, slotted}
 use Rattle.entering.proofs.TurnLaws.{typed-tells, turned-map, turned_then, unmet-then, turned-still, fits-same, extend, stands-push, turned-push, fits-set, fits-unset, inside-set}

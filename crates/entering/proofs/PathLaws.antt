@@ -1,21 +1,20 @@
 -- From entry to paths.
-use Rattle.std.proofs.Common.{◌≡◌, ℕ, zero, suc, ◌+◌, ◌-◌, ◌<◌, ◌≤◌, ◌⊎◌, List, [], ◌∷◌, ◌++◌, map, length, get_or, Some, None, Option, sym, refl, ap, ◌∙◌, subst, ap₂, inl, inr, arith}
+use Rattle.std.proofs.Common.{◌≡◌, ℕ, zero, suc, ◌<◌, List, [], ◌∷◌, ◌++◌, length, Some, None, sym, refl, ap, ◌∙◌, subst, ap₂, arith}
 use Rattle.std.specs.List.{AllByRecursion as All}
-use Rattle.horn.specs.Terms.{Term, Terms, node, nil, cons, join, count, evals}
-use Rattle.horn.specs.Clauses.{Variable, Query}
+use Rattle.horn.specs.Terms.{Terms, node, nil, cons, join, count}
 use Rattle.horn.specs.Paths.{Path}
-use Rattle.horn.specs.Instances.{Rule, no_rule, rule_at, Leads, Asks}
+use Rattle.horn.specs.Instances.{Rule, no_rule, rule_at, Leads}
 use Rattle.horn.specs.Search.{child}
 use Rattle.horn.proofs.Leading.{leads-more, leads-last}
-use Rattle.heap.specs.Heaps.{Heap, Sound}
+use Rattle.heap.specs.Heaps.{Heap}
 use Rattle.heap.specs.Solutions.{Valuation, Sol, span}
 use Rattle.heap.proofs.Denotes.{general}
 use Rattle.code.specs.declared.instructions.Instruction.{Instruction}
-use Rattle.code.specs.Meaning.{Symbols, Terming, Runs, span as term_span}
+use Rattle.code.specs.Meaning.{Symbols, Runs}
 use Rattle.entering.specs.declared.goal.Goal.{Goal}
 use Rattle.entering.specs.Goals.{worth, vals, Names, Good}
 use Rattle.entering.specs.Entries.{Same, Entered, Denied}
-use Rattle.entering.specs.Paths.{Coded, coded_at, code_rule, code_rules, terms, values, Posed, Stores, Passes, Succeeds, Stored, Onward, KnownAll, PathStep, Reached, PathEnd}
+use Rattle.entering.specs.Paths.{Coded, coded_at, code_rule, code_rules, terms, Posed, Stores, KnownAll, PathStep, PathEnd}
 use Rattle.entering.proofs.StepLaws.{vals-same, vals-append}
 use Rattle.entering.proofs.ReadyLaws.{span-is}
 

@@ -1,17 +1,13 @@
 -- Laws of the code that is left.
-use Rattle.std.proofs.Common.{◌≡◌, ℕ, zero, suc, ◌+◌, ◌<◌, ◌≤◌, Bool, true, false, cond, eqb, ◌⊎◌, List, [], ◌∷◌, ◌++◌, length, get_or, drop, sym, refl, ap, ◌∙◌, subst, ap₂, inl, inr, arith}
-use native.Mathlib.Decide.{ℕ_discrete}
-use Rattle.std.proofs.lemmas.Bool.{eq-eqb, ne_eqb, eqb-true, eqb-false}
-use Rattle.horn.specs.Terms.{Term, Terms, var, node, nil, cons}
-use Rattle.heap.specs.Solutions.{Valuation, span}
-use Rattle.heap.proofs.SpanLaws.{span_ext}
-use Rattle.code.specs.declared.instructions.Operand.{Operand}
-use Rattle.code.specs.declared.instructions.Operand.TheVariants.{Fresh, Known, Constant}
+use Rattle.std.proofs.Common.{◌≡◌, ℕ, zero, suc, ◌+◌, ◌<◌, ◌≤◌, true, cond, eqb, List, [], ◌∷◌, length, get_or, drop, sym, refl, ap, ◌∙◌, ap₂, inl, inr, arith}
+use Rattle.std.proofs.lemmas.Bool.{eq-eqb}
+use Rattle.horn.specs.Terms.{Term, var, node, cons}
+use Rattle.heap.specs.Solutions.{span}
 use Rattle.code.specs.declared.instructions.Instruction.{Instruction}
 use Rattle.code.specs.declared.instructions.Instruction.TheVariants.{Allocate, Get, GetStructure, Unify, Put, PutStructure, Set, Call, Proceed}
 use Rattle.code.specs.Meaning.{Symbols, Terming, given, part, parts, update, Says, goals, span as term_span}
 use Rattle.entering.specs.Goals.{Names}
-use Rattle.entering.specs.Turns.{Takes, AllTake}
+use Rattle.entering.specs.Turns.{Takes}
 use Rattle.entering.specs.Ready.{In, operand_of, Piece, Pieces, Ready, price, dues, leaves, calls}
 
 -- terms in a row, of code and of cells

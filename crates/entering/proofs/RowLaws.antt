@@ -1,7 +1,7 @@
 -- Rows of cells, one for each operand, and structures.
-use Rattle.std.proofs.Common.{◌≡◌, ℕ, zero, suc, ◌+◌, ◌<◌, ◌≤◌, List, [], ◌∷◌, ◌++◌, length, get_or, Some, None, Option, sym, refl, ap, ◌∙◌, subst, ap₂, arith}
+use Rattle.std.proofs.Common.{◌≡◌, ℕ, ◌+◌, ◌<◌, List, [], ◌∷◌, ◌++◌, length, get_or, Some, None, sym, ap, ◌∙◌, subst, ap₂, arith}
 use native.Mathlib.Decide.{dec_lt}
-use Rattle.horn.specs.Terms.{Term, Terms, node, nil, cons}
+use Rattle.horn.specs.Terms.{node}
 use Rattle.heap.specs.Heaps.{Heap, cell}
 use Rattle.heap.specs.Solutions.{Valuation, Sol, Root, span}
 use Rattle.heap.specs.declared.cell.Cell.TheVariants.{Node}
@@ -9,10 +9,8 @@ use Rattle.heap.proofs.SpanLaws.{span_ext, span-at, span-len}
 use Rattle.code.specs.declared.instructions.Operand.{Operand}
 use Rattle.code.specs.declared.instructions.Operand.TheVariants.{Known}
 use Rattle.code.specs.Meaning.{Symbols, Terming, given}
-use Rattle.entering.specs.Goals.{Names}
-use Rattle.entering.specs.Entries.{Same}
 use Rattle.entering.specs.Turns.{Slots, Fits, Claim, Nothing, Stands, Turned, Unmet, Is, Rows, Structure, SlotIs}
-use Rattle.entering.proofs.TurnLaws.{turned-map, turned_then, unmet-then, turned-still, turned-push}
+use Rattle.entering.proofs.TurnLaws.{turned_then, unmet-then, turned-still, turned-push}
 use Rattle.entering.proofs.OperandLaws.{root-term, unmet-clash}
 
 pub rows-span : (b n : ℕ) (ρ τ : Valuation) → ((j : ℕ) → j < n → ρ (b + j) ≡ τ j) → span ρ b n ≡ span τ 0 n

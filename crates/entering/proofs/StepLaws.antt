@@ -1,28 +1,26 @@
 -- The instructions, one by one.
-use Rattle.std.proofs.Common.{◌≡◌, ℕ, zero, suc, ◌+◌, ◌-◌, ◌<◌, ◌≤◌, Bool, true, false, cond, eqb, ◌⊎◌, List, [], ◌∷◌, ◌++◌, length, get_or, drop, set, sym, refl, ap, ◌∙◌, subst, ap₂, inl, inr, arith, length-set, get_or-set_other, get_or-set_same}
+use Rattle.std.proofs.Common.{◌≡◌, ℕ, ◌+◌, ◌-◌, ◌<◌, ◌≤◌, cond, List, [], ◌∷◌, ◌++◌, length, get_or, drop, set, sym, refl, ap, ◌∙◌, subst, ap₂, inl, inr, arith, length-set, get_or-set_other, get_or-set_same}
 use native.Mathlib.Decide.{ℕ_discrete}
 use Rattle.std.specs.List.{AllByRecursion as All}
 use Rattle.std.proofs.lemmas.List.{length_push}
 use Rattle.std.proofs.ByRecursion.{All-append, All-weaker}
 use Rattle.std.proofs.lemmas.Bool.{eq-eqb, ne_eqb}
-use Rattle.horn.specs.Terms.{Term, Terms, var, node, nil, cons, join}
-use Rattle.heap.specs.Limits.{cell_limit}
+use Rattle.horn.specs.Terms.{Terms, var, node, cons, join}
 use Rattle.heap.specs.Heaps.{Heap}
 use Rattle.heap.specs.Solutions.{Valuation, Sol, span}
 use Rattle.heap.proofs.SpanLaws.{span_ext, span-at}
 use Rattle.code.specs.declared.instructions.Operand.{Operand}
-use Rattle.code.specs.declared.instructions.Operand.TheVariants.{Fresh, Known, Constant}
+use Rattle.code.specs.declared.instructions.Operand.TheVariants.{Fresh}
 use Rattle.code.specs.declared.instructions.Instruction.{Instruction}
-use Rattle.code.specs.declared.instructions.Instruction.TheVariants.{Allocate, Get, GetStructure, Unify, Put, PutStructure, Set, Call, Proceed}
+use Rattle.code.specs.declared.instructions.Instruction.TheVariants.{Allocate, Get, Unify, Put, Set, Call, Proceed}
 use Rattle.code.specs.Meaning.{Symbols, Terming, given, parts, update, Says, goals}
 use Rattle.entering.specs.declared.goal.Goal.{Goal}
 use Rattle.entering.specs.Goals.{worth, vals, Names, Good}
 use Rattle.entering.specs.Entries.{Same}
 use Rattle.entering.specs.Turns.{Slots, Fits, Claim, Nothing, Stands, Turned, Unmet, Takes, Is, Rows, SlotIs}
 use Rattle.entering.specs.Ready.{In, operand_of, Pieces, Ready, dues, calls}
-use Rattle.entering.specs.States.{laid, State, state, Setting, Suits, Steps, Stuck, Going, Stepped}
+use Rattle.entering.specs.States.{laid, State, state, Setting, Steps, Stuck, Going, Stepped}
 use Rattle.entering.proofs.TurnLaws.{same-trans, turned-still}
-use Rattle.entering.proofs.RowLaws.{rows-span}
 use Rattle.entering.proofs.ReadyLaws.{span-is, parts-span, says-drop, says-undrop, goals-drop, ready-drop, dues-drop, goals-agree, goals-same}
 
 pub worth-same : (s : Symbols) (g : Goal) (n : ℕ) (ρ τ : Valuation) → ((k : ℕ) → k < g.arity → g.first + k < n) → Same n ρ τ → worth s ρ g ≡ worth s τ g

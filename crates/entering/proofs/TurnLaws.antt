@@ -1,21 +1,18 @@
 -- Laws of cells and slots that change.
-use Rattle.std.proofs.Common.{◌≡◌, ℕ, zero, suc, ◌+◌, ◌<◌, ◌≤◌, ◌≢◌, List, [], ◌∷◌, ◌++◌, length, get_or, set, Some, None, Option, sym, refl, ap, ◌∙◌, subst, ap₂, arith, length-set, get_or-set_other, get_or-set_same}
+use Rattle.std.proofs.Common.{◌≡◌, ℕ, ◌+◌, ◌<◌, ◌≤◌, List, [], ◌∷◌, ◌++◌, length, get_or, set, Some, None, sym, refl, ap, ◌∙◌, arith, get_or-set_other, get_or-set_same}
 use native.Mathlib.Decide.{dec_lt, ℕ_discrete}
 use Rattle.std.proofs.lemmas.List.{length_push, get_or_append_left, get_or_push, get_or_past}
-use Rattle.horn.specs.Terms.{Term, Terms, var, node, nil, cons}
-use Rattle.heap.specs.Heaps.{Heap, cell, Names as Reached, Closed, Rooted}
-use Rattle.heap.specs.Solutions.{Valuation, Sol, Says, Tells, Root, Apart, span}
+use Rattle.horn.specs.Terms.{Term, var, node}
+use Rattle.heap.specs.Heaps.{Heap, cell, Names as Reached}
+use Rattle.heap.specs.Solutions.{Valuation, Sol, Says, Tells, span}
 use Rattle.heap.specs.declared.cell.Cell.{Cell}
 use Rattle.heap.specs.declared.cell.Cell.TheVariants.{Unbound, Ref, Node}
 use Rattle.heap.proofs.PushLaws.{closed-push, sol-push, sol-pop, sol-agree, from, from-below, from-above}
-use Rattle.heap.proofs.SpanLaws.{span_ext, span-at}
-use Rattle.matching.specs.Unifies.{Unified}
-use Rattle.code.specs.declared.instructions.Operand.{Operand}
-use Rattle.code.specs.declared.instructions.Operand.TheVariants.{Fresh, Known, Constant}
-use Rattle.code.specs.Meaning.{Symbols, Terming, given}
+use Rattle.heap.proofs.SpanLaws.{span_ext}
+use Rattle.code.specs.Meaning.{Symbols, Terming}
 use Rattle.entering.specs.Goals.{Names, Typed}
 use Rattle.entering.specs.Entries.{Same}
-use Rattle.entering.specs.Turns.{Slots, Fits, Claim, Nothing, Stands, Turned, Unmet, Takes, Is, Rows, Structure, SlotIs, slot_cell, slot_set, celled, slotted}
+use Rattle.entering.specs.Turns.{Slots, Fits, Claim, Nothing, Stands, Turned, Unmet}
 
 pub same-trans : {n m : ℕ} {ρ τ υ : Valuation} → n ≤ m → Same n ρ τ → Same m τ υ → Same n ρ υ
 same-trans le p q k h = p k h ∙ q k (omega arith)

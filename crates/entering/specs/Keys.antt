@@ -1,5 +1,5 @@
 -- Keys: a clause whose key clashes with the goal's cannot be entered.
-use Rattle.std.specs.Prelude.{◌≡◌, ℕ, ◌+◌, ◌<◌, List, map, length, ◌≢◌}
+use Rattle.std.specs.Prelude.{ℕ, ◌+◌, ◌<◌, List, map, length, ◌≢◌}
 use Rattle.heap.specs.Heaps.{Heap, cell}
 use Rattle.heap.specs.Solutions.{Root}
 use Rattle.heap.specs.declared.cell.Cell.{Cell}

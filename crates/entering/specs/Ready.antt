@@ -1,7 +1,7 @@
 -- What the runner needs of the code that is left, and what cells it may cost.
 use Rattle.std.specs.Prelude.{◌≡◌, ℕ, zero, suc, ◌+◌, ◌<◌, ◌≤◌, ◌⊎◌, List, [], ◌∷◌, length, slice_index}
 use Rattle.code.specs.declared.instructions.Operand.{Operand}
-use Rattle.code.specs.declared.instructions.Operand.TheVariants.{Fresh, Known, Constant}
+use Rattle.code.specs.declared.instructions.Operand.TheVariants.{Constant}
 use Rattle.code.specs.declared.instructions.Instruction.{Instruction}
 use Rattle.code.specs.declared.instructions.Instruction.TheVariants.{Allocate, Get, GetStructure, Unify, Put, PutStructure, Set, Call, Proceed}
 use Rattle.entering.specs.Turns.{Takes}

@@ -1,5 +1,5 @@
 -- A clause that is being entered.
-use Rattle.std.specs.Prelude.{◌≡◌, ℕ, ◌+◌, ◌<◌, ◌≤◌, List, [], ◌∷◌, length, slice_index_or}
+use Rattle.std.specs.Prelude.{◌≡◌, ℕ, ◌+◌, ◌<◌, ◌≤◌, List, length, slice_index_or}
 use Rattle.std.specs.List.{AllByRecursion as All}
 use Rattle.horn.specs.Terms.{Terms, join}
 use Rattle.heap.specs.Limits.{cell_limit}

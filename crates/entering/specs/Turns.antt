@@ -1,5 +1,5 @@
 -- Cells and slots that change: what is asked of the terms that they had, and what those that they have keep.
-use Rattle.std.specs.Prelude.{◌≡◌, ℕ, ◌+◌, ◌<◌, ◌≤◌, List, [], ◌∷◌, ◌++◌, length, get_or, Some, None, Option, slice_index, slice_index_or, slice_set}
+use Rattle.std.specs.Prelude.{◌≡◌, ℕ, ◌+◌, ◌<◌, ◌≤◌, List, length, get_or, Some, None, Option, slice_index, slice_index_or, slice_set}
 use Rattle.horn.specs.Terms.{node}
 use Rattle.heap.specs.Heaps.{Heap, Closed}
 use Rattle.heap.specs.Solutions.{Valuation, Sol, span}

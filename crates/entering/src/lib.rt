@@ -1,4 +1,6 @@
 // Entering a clause, free of the machine that does it: goals, and what becomes of the cells.
+#![tactic(auto)]
+
 mod goal;
 mod theorems;
 

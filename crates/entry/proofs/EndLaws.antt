@@ -1,7 +1,6 @@
 -- From instruction to instruction, and to the end.
-use Rattle.std.proofs.Common.{◌≡◌, ℕ, zero, suc, ◌+◌, ◌<◌, ◌≤◌, List, [], ◌∷◌, ◌++◌, map, length, get_or, take, drop, set, IfSome, Some, None, Option, sym, refl, ap, ◌∙◌, subst, ap₂, arith, get_or-set_other, get_or-set_same, MatchOption}
+use Rattle.std.proofs.Common.{◌≡◌, ℕ, ◌+◌, ◌<◌, ◌≤◌, List, [], map, length, get_or, take, drop, set, IfSome, Some, None, Option, sym, ap, ◌∙◌, subst, ap₂, arith, get_or-set_other, get_or-set_same, MatchOption}
 use native.Mathlib.Decide.{ℕ_discrete, dec_lt}
-use Rattle.std.specs.List.{AllByRecursion as All}
 use Rattle.std.proofs.lemmas.List.{drop_all, get_or_past}
 use Rattle.heap.specs.Limits.{cell_limit}
 use Rattle.heap.specs.Heaps.{Heap, Closed}
@@ -15,7 +14,7 @@ use Rattle.code.specs.Meaning.{Symbols}
 use Rattle.code.specs.declared.instructions.Operand.{Operand}
 use Rattle.entering.specs.declared.goal.Goal.{Goal}
 use Rattle.entering.specs.Goals.{Names, Typed, Good}
-use Rattle.entering.specs.Entries.{Entered, Denied}
+use Rattle.entering.specs.Entries.{Denied}
 use Rattle.entering.specs.Turns.{Slots}
 use Rattle.entering.specs.Ready.{Ready, dues, calls}
 use Rattle.entering.specs.States.{State, state, Setting, setting, Going, Stuck, Stepped}

@@ -1,5 +1,5 @@
 -- A cell that has been made equal to an operand, or could not be.
-use Rattle.std.proofs.Common.{◌≡◌, ℕ, zero, suc, ◌+◌, ◌<◌, ◌≤◌, Bool, true, false, eqb, List, [], ◌∷◌, ◌++◌, length, get_or, set, Some, None, MatchBool, Option, sym, refl, ap, ◌∙◌, subst, arith}
+use Rattle.std.proofs.Common.{◌≡◌, ℕ, ◌+◌, ◌<◌, ◌≤◌, Bool, true, false, eqb, List, [], ◌∷◌, ◌++◌, length, get_or, set, Some, None, MatchBool, sym, ap, subst, arith}
 use Rattle.std.proofs.lemmas.List.{length_push}
 use Rattle.std.proofs.lemmas.Bool.{eqb-true, eqb-false}
 use Rattle.heap.specs.Heaps.{Heap, cell}
@@ -9,11 +9,10 @@ use Rattle.matching.specs.Trails.{Kept}
 use Rattle.matching.specs.Unifies.{Unified}
 use Rattle.matching.specs.declared.trail.Bound.{Bound}
 use Rattle.code.specs.declared.instructions.Operand.{Operand}
-use Rattle.code.specs.declared.instructions.Operand.TheVariants.{Fresh, Known, Constant}
+use Rattle.code.specs.declared.instructions.Operand.TheVariants.{Known, Constant}
 use Rattle.cells.specs.Growth.{Grew}
-use Rattle.cells.proofs.GrowthLaws.{grew_none, grew-push, grew-kept, grew_trans}
-use Rattle.entering.specs.Turns.{Slots, Inside, Turns, Fails, Takes, Taken, Is}
-use Rattle.entering.proofs.TurnLaws.{inside-set}
+use Rattle.cells.proofs.GrowthLaws.{grew-push, grew-kept, grew_trans}
+use Rattle.entering.specs.Turns.{Slots, Inside, Turns, Fails, Takes, Is}
 use Rattle.entering.proofs.OperandLaws.{got-known, unmet-known, got-fresh, got-constant, unmet-constant, bound-constant, unbound-constant}
 
 pub inside-long : (S : Slots) (H H' : Heap) → length H ≤ length H' → Inside S H → Inside S H'

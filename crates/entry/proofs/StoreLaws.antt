@@ -1,7 +1,7 @@
 -- What every store has.
-use Rattle.std.proofs.Common.{ℕ, ◌≤◌, length, arith}
+use Rattle.std.proofs.Common.{◌≤◌, length, arith}
 use Rattle.heap.specs.Limits.{cell_limit}
-use Rattle.cells.specs.States.{Fine, Sane}
+use Rattle.cells.specs.States.{Fine}
 use Rattle.cells.specs.Stores.{cells_of, bound_of}
 use Rattle.cells.specs.declared.store.Store.{Store}
 use Rattle.cells.proofs.Seals.{unsealed}

@@ -1,10 +1,10 @@
 -- Structures that are made and read, cell by cell.
-use Rattle.std.proofs.Common.{◌≡◌, ℕ, zero, suc, ◌+◌, ◌<◌, ◌≤◌, Bool, true, false, List, [], ◌∷◌, ◌++◌, length, get_or, set, Some, None, MatchBool, Option, sym, refl, ap, ◌∙◌, subst, arith, length-set}
+use Rattle.std.proofs.Common.{◌≡◌, ℕ, ◌+◌, ◌<◌, ◌≤◌, Bool, true, false, List, [], ◌∷◌, ◌++◌, length, get_or, Some, None, MatchBool, Option, sym, refl, ap, ◌∙◌, subst, arith}
 use Rattle.std.proofs.lemmas.List.{length_push}
 use Rattle.heap.specs.Heaps.{Heap, cell, arity}
 use Rattle.heap.specs.Solutions.{Root}
 use Rattle.heap.specs.declared.cell.Cell.{Cell}
-use Rattle.heap.specs.declared.cell.Cell.TheVariants.{Unbound, Ref, Node}
+use Rattle.heap.specs.declared.cell.Cell.TheVariants.{Node}
 use Rattle.matching.specs.declared.trail.Bound.{Bound}
 use Rattle.cells.specs.States.{Fine}
 use Rattle.cells.specs.Growth.{Spare, Grew}

@@ -1,22 +1,20 @@
 -- The instruction at a place of the code.
-use Rattle.std.proofs.Common.{◌≡◌, ℕ, zero, suc, ◌+◌, ◌-◌, ◌<◌, ◌≤◌, List, [], ◌∷◌, ◌++◌, map, length, get_or, take, drop, set, sym, refl, ap, ◌∙◌, subst, ap₂, arith, length-drop, get_or-drop, drop-drop}
+use Rattle.std.proofs.Common.{◌≡◌, ℕ, zero, suc, ◌+◌, ◌-◌, ◌<◌, ◌≤◌, List, [], ◌∷◌, ◌++◌, map, length, get_or, take, drop, set, sym, refl, ap, ◌∙◌, subst, arith, length-drop, get_or-drop, drop-drop}
 use lib.ListN.{length-map, get_or-map}
 use Rattle.std.proofs.lemmas.List.{drop_more, take_more_set, length-take-le}
-use Rattle.heap.specs.Limits.{cell_limit}
 use Rattle.heap.specs.Heaps.{Heap}
 use Rattle.code.specs.Limits.{call_limit}
 use Rattle.code.specs.Words.{decode}
 use Rattle.code.specs.declared.instructions.Operand.{Operand}
-use Rattle.code.specs.declared.instructions.Operand.TheVariants.{Fresh}
 use Rattle.code.specs.declared.instructions.Instruction.{Instruction}
 use Rattle.code.specs.declared.instructions.Instruction.TheVariants.{Allocate, Get, GetStructure, Unify, Put, PutStructure, Set, Call, Proceed}
 use Rattle.entering.specs.declared.goal.Goal.{Goal}
-use Rattle.entering.specs.Turns.{Slots, Inside, Nothing, Turned, Unmet, Turns, Fails, Takes, Taken, AllTake, AllTaken, Is, Rows, SlotIs, Built}
+use Rattle.entering.specs.Turns.{Slots, Nothing, Turns, Fails, Takes, AllTake, AllTaken, Is, Rows, SlotIs, Built}
 use Rattle.entering.specs.Ready.{operand_of, Pieces, Ready, dues}
 use Rattle.entering.specs.States.{State, state, Setting, setting, Going, Stuck, Stepped}
 use Rattle.entering.proofs.OperandLaws.{takes-taken}
 use Rattle.entering.proofs.ReadyLaws.{pieces-long, ready-takes, dues-drop}
-use Rattle.entering.proofs.StepLaws.{step-allocate, step-proceed, step-unify, step_set, step-get, stuck-get, get-within, step-structure, stuck-structure, step-put, step_call}
+use Rattle.entering.proofs.StepLaws.{step-allocate, step-proceed, step-unify, step_set, step-get, stuck-get, step-structure, stuck-structure, step-put, step_call}
 use Rattle.entry.specs.Operands.{op_at, put_at}
 use Rattle.entry.specs.Runs.{state_at, Advances}
 

@@ -1,4 +1,6 @@
 // Entering a clause: its code is run once, from a goal's arguments to the goals that it leaves.
+#![tactic(auto)]
+
 mod clauses;
 mod operands;
 mod steps;

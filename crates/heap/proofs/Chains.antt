@@ -1,8 +1,8 @@
 -- How far references lead in a sound heap: no further than there are references.
-use Rattle.std.proofs.Common.{◌≡◌, ℕ, zero, suc, ◌+◌, ◌<◌, ◌≤◌, ◌≢◌, List, [], ◌∷◌, length, get_or, set, sym, refl, ap, ◌∙◌, subst, arith}
+use Rattle.std.proofs.Common.{◌≡◌, ℕ, zero, suc, ◌<◌, ◌≤◌, [], ◌∷◌, length, set, refl, ap, subst, arith}
 use mathlib.Core.WellFounded.Acc
 use mathlib.Core.WellFounded.{Acc}
-use Rattle.heap.specs.Heaps.{Heap, cell, Names, Edge, Ends, Sound, Reach, here, step, total, refs, past, walk}
+use Rattle.heap.specs.Heaps.{Heap, cell, Edge, Ends, Reach, here, step, total, refs, past, walk}
 use Rattle.heap.specs.declared.cell.Cell.{Cell}
 use Rattle.heap.specs.declared.cell.Cell.TheVariants.{Unbound, Ref, Node}
 use Rattle.heap.proofs.HeapLaws.{reach-trans, cell_other, ends-away, edge-ref, total-set}

@@ -1,8 +1,8 @@
 -- What each cell of a sound heap stands for, and that it is the most general solution.
-use Rattle.std.proofs.Common.{◌≡◌, ℕ, zero, suc, ◌+◌, ◌<◌, ◌≤◌, sym, refl, ap, ◌∙◌, subst, ap₂, arith}
+use Rattle.std.proofs.Common.{◌≡◌, ℕ, zero, suc, ◌+◌, ◌<◌, ◌≤◌, refl, ap, ◌∙◌, ap₂, arith}
 use mathlib.Core.WellFounded.{Acc, Acc-prop}
 use Rattle.horn.specs.Terms.{Term, Terms, var, node, nil, cons, eval, evals}
-use Rattle.heap.specs.Heaps.{Heap, cell, Names, Edge, Ends, Sound}
+use Rattle.heap.specs.Heaps.{Heap, cell, Names, Ends, Sound}
 use Rattle.heap.specs.Solutions.{Naming, Valuation, span, Says, Sol, General}
 use Rattle.heap.specs.declared.cell.Cell.{Cell}
 use Rattle.heap.specs.declared.cell.Cell.TheVariants.{Unbound, Ref, Node}

@@ -1,8 +1,8 @@
 -- Laws of heaps: ways down, and what a write keeps.
-use Rattle.std.proofs.Common.{◌≡◌, ℕ, zero, suc, ◌+◌, ◌<◌, ◌≤◌, ◌≢◌, ◌⊎◌, List, [], ◌∷◌, length, get_or, set, sym, refl, ap, ◌∙◌, subst, inl, inr, arith, length-set, get_or-set_other, get_or-set_same}
+use Rattle.std.proofs.Common.{◌≡◌, ℕ, zero, suc, ◌+◌, ◌<◌, ◌≤◌, ◌≢◌, ◌⊎◌, [], ◌∷◌, length, set, sym, refl, subst, inl, inr, arith, length-set, get_or-set_other, get_or-set_same}
 use mathlib.Core.WellFounded.{Acc}
 use native.Mathlib.Decide.{ℕ_discrete}
-use Rattle.heap.specs.Heaps.{Heap, cell, Names, Edge, Ends, Sound, Closed, Reach, here, step, Below, Rooted, total, arity}
+use Rattle.heap.specs.Heaps.{Heap, cell, Names, Edge, Ends, Sound, Closed, Reach, here, step, Below, Rooted, total}
 use Rattle.heap.specs.declared.cell.Cell.{Cell}
 use Rattle.heap.specs.declared.cell.Cell.TheVariants.{Unbound, Ref, Node}
 

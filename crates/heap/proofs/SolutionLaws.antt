@@ -1,12 +1,12 @@
 -- Laws of solutions: what a write asks of them, and when there is none.
-use Rattle.std.proofs.Common.{◌≡◌, ℕ, zero, suc, ◌+◌, ◌<◌, ◌≤◌, ◌≢◌, ◌⊎◌, length, set, sym, refl, ap, ◌∙◌, subst, inl, inr, ⊎_elim, arith}
+use Rattle.std.proofs.Common.{◌≡◌, ℕ, ◌<◌, ◌≤◌, ◌≢◌, ◌⊎◌, length, set, sym, refl, ap, ◌∙◌, subst, ⊎_elim, arith}
 use native.Mathlib.Decide.{ℕ_discrete}
-use Rattle.horn.specs.Terms.{Name, Term, Terms, node, nil, cons, eval}
-use Rattle.heap.specs.Heaps.{Heap, cell, Names, Edge, Reach, here, step, Rooted}
+use Rattle.horn.specs.Terms.{node, nil, eval}
+use Rattle.heap.specs.Heaps.{Heap, cell, Names, Reach, here, step, Rooted}
 use Rattle.heap.specs.Solutions.{Naming, Valuation, span, Says, Sol, Tells, Apart}
 use Rattle.heap.specs.declared.cell.Cell.{Cell}
 use Rattle.heap.specs.declared.cell.Cell.TheVariants.{Unbound, Ref, Node}
-use Rattle.heap.proofs.SpanLaws.{size, sizes, span-eval, span-size, span-len}
+use Rattle.heap.proofs.SpanLaws.{size, span-eval, span-size, span-len}
 use Rattle.heap.proofs.HeapLaws.{cell_other, cell_same, reach-free}
 
 -- a naming that tells the symbols apart does so when a cell becomes a reference

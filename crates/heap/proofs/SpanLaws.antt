@@ -1,5 +1,5 @@
 -- Laws of the terms of cells in a row, and of sizes.
-use Rattle.std.proofs.Common.{◌≡◌, ℕ, zero, suc, ◌+◌, ◌<◌, ◌≤◌, sym, refl, ap, ◌∙◌, ap₂, arith}
+use Rattle.std.proofs.Common.{◌≡◌, ℕ, zero, suc, ◌+◌, ◌<◌, ◌≤◌, refl, ap, ◌∙◌, ap₂, arith}
 use native.Mathlib.Decide.{ℕ_discrete}
 use Rattle.horn.specs.Terms.{Term, Terms, var, node, nil, cons, eval, evals}
 use Rattle.heap.specs.Solutions.{Valuation, span}

@@ -1,4 +1,6 @@
 // The heap: cells that stand for terms, following references, and whether one cell is reached from another.
+#![tactic(auto)]
+
 mod cell;
 mod follow;
 mod marks;

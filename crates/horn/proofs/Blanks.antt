@@ -1,8 +1,8 @@
 -- Terms with their blanks told apart are written as they were.
-use Rattle.std.proofs.Common.{◌≡◌, ℕ, ◌+◌, Bool, true, false, cond, eqb, List, [], ◌∷◌, sym, refl, ap, ◌∙◌, ap₂, arith}
+use Rattle.std.proofs.Common.{◌≡◌, ℕ, ◌+◌, Bool, true, false, cond, [], ◌∷◌, sym, refl, ap, ap₂, arith}
 use Rattle.std.proofs.lemmas.Bool.{eqb-true}
-use Rattle.horn.specs.Terms.{Name, Term, Terms, var, node, nil, cons, eval, evals}
-use Rattle.horn.specs.Clauses.{Variable, named, blank, Written, is_blank, called, written, meant, blanks, apart, aparts}
+use Rattle.horn.specs.Terms.{Name, Term, var, node, nil, cons, eval}
+use Rattle.horn.specs.Clauses.{named, blank, Written, is_blank, called, written, meant, blanks, apart, aparts}
 
 blank-is : (v : Name) → is_blank v ≡ true → 95 ∷ [] ≡ v
 blank-is [] e = let z : ◌≡◌ {A = ℕ} 0 1 = cc in absurd (omega arith)

@@ -1,6 +1,6 @@
 -- Laws of `join`, `front` and `back`.
-use Rattle.std.proofs.Common.{◌≡◌, ℕ, zero, suc, ◌+◌, ◌-◌, ◌<◌, ◌≤◌, sym, refl, ap, ◌∙◌, subst, ap₂, arith}
-use Rattle.horn.specs.Terms.{Term, Terms, var, node, nil, cons, count, front, back, join}
+use Rattle.std.proofs.Common.{◌≡◌, ℕ, zero, suc, ◌+◌, ◌≤◌, refl, ap, ◌∙◌, arith}
+use Rattle.horn.specs.Terms.{Terms, nil, cons, count, front, back, join}
 
 pub join-nil : {V : Type 0} (ts : Terms V) → join ts nil ≡ ts
 join-nil nil = refl

@@ -1,6 +1,6 @@
 -- Clauses and queries, and their variables.
-use Rattle.std.specs.Prelude.{ℕ, ◌+◌, Bool, true, false, cond, List, [], ◌∷◌, ◌==◌}
-use Rattle.horn.specs.Terms.{Name, Term, Terms, var, node, nil, cons, eval, evals}
+use Rattle.std.specs.Prelude.{ℕ, ◌+◌, Bool, false, cond, [], ◌∷◌, ◌==◌}
+use Rattle.horn.specs.Terms.{Name, Term, Terms, var, node, nil, cons, evals}
 
 -- a variable of a line: one that has a name, or the n-th `_`, counted from 0
 pub data Variable : Type 0 where

@@ -1,17 +1,17 @@
 -- What is accepted is spelt by the grammar.
-use Rattle.std.proofs.Common.{◌≡◌, ℕ, zero, suc, ◌+◌, ◌-◌, ◌<◌, ◌≤◌, Bool, true, false, cond, ◌&&◌, ◌||◌, eqb, ltb, leb, List, [], ◌∷◌, ◌++◌, map, length, Some, None, Ok, Err, Option, Result, sym, refl, ap, ◌∙◌, subst, ap₂, arith}
-use Rattle.std.proofs.lemmas.Bool.{cond-true, cond-false, ltb-false, leb-true}
+use Rattle.std.proofs.Common.{◌≡◌, ℕ, zero, suc, ◌+◌, ◌≤◌, Bool, true, false, cond, ltb, List, [], ◌∷◌, map, Some, None, Ok, Err, Option, Result, sym, refl, ap, ◌∙◌, subst, ap₂, arith}
+use Rattle.std.proofs.lemmas.Bool.{ltb-false, leb-true}
 use Rattle.lines.specs.declared.faults.LineFault.{LineFault}
 use Rattle.lines.specs.declared.faults.LineFault.TheVariants.{Field, Heavy, Variable}
 use Rattle.lines.specs.declared.faults.FieldFault.TheVariants.{Form}
-use Rattle.horn.specs.Terms.{Term, Terms, var, node, nil, cons, count, front, back, Name, join}
+use Rattle.horn.specs.Terms.{node, nil, cons, count, front, back, Name, join}
 use Rattle.horn.specs.Notation.{Word, name, structure, variable, field, arity, word_for, words, wordss}
 use Rattle.lines.specs.Words.{word_of, GoodWord}
-use Rattle.horn.specs.Clauses.{Written, Callable, Callables}
-use Rattle.lines.specs.Lines.{then, ok_or, word_at, cost, weighed, goal_only, check, push, noted, build}
-use Rattle.lines.specs.Grammar.{Good, Goods}
-use Rattle.horn.specs.Weights.{own, weigh, weighs, under, load}
-use Rattle.horn.proofs.JoinLaws.{join-nil, front-more, back-back, count-front, count-back}
+use Rattle.horn.specs.Clauses.{Written, Callables}
+use Rattle.lines.specs.Lines.{then, ok_or, cost, weighed, goal_only, check, push, noted, build}
+use Rattle.lines.specs.Grammar.{Goods}
+use Rattle.horn.specs.Weights.{own, weighs, load}
+use Rattle.horn.proofs.JoinLaws.{front-more, back-back, count-front, count-back}
 use Rattle.lines.proofs.WordLaws.{Spells, field-word}
 
 pub record Accepted (g n price w v : ℕ) (fs : List (List ℕ)) (ts : Written) : Type 0 where

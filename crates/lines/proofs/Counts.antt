@@ -1,10 +1,10 @@
 -- What the check of a line's fields says of the terms that they spell.
-use Rattle.std.proofs.Common.{◌≡◌, ℕ, ◌+◌, ◌≤◌, List, [], ◌∷◌, map, Ok, sym, refl, ap, ◌∙◌, arith}
+use Rattle.std.proofs.Common.{◌≡◌, ℕ, ◌+◌, List, [], ◌∷◌, map, Ok, sym, refl, ap, ◌∙◌, arith}
 use Rattle.lines.specs.declared.kind.Kind.{Kind}
 use Rattle.horn.specs.Terms.{Name, Term, var, node, nil, cons, count}
 use Rattle.horn.specs.Clauses.{Written}
 use Rattle.horn.specs.Weights.{load}
-use Rattle.horn.specs.Notation.{Word, name, structure, variable, field, word_for, words, wordss}
+use Rattle.horn.specs.Notation.{Word, variable, field, word_for, words, wordss}
 use Rattle.lines.specs.Kinds.{least, heads}
 use Rattle.lines.specs.Lines.{check, build}
 use Rattle.lines.specs.Grammar.{Good, Goods}

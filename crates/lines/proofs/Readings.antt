@@ -1,16 +1,16 @@
 -- An accepted line has one reading.
-use Rattle.std.proofs.Common.{◌≡◌, ℕ, zero, suc, ◌+◌, ◌-◌, ◌<◌, ◌≤◌, Bool, true, false, cond, ◌&&◌, ◌||◌, eqb, ltb, leb, List, [], ◌∷◌, ◌++◌, map, length, take, drop, Some, None, Ok, Err, Option, Result, sym, refl, ap, ◌∙◌, subst, ap₂, arith}
+use Rattle.std.proofs.Common.{◌≡◌, ℕ, ◌+◌, ◌-◌, ◌<◌, ◌≤◌, Bool, true, false, cond, ◌&&◌, ◌||◌, eqb, ltb, leb, List, [], ◌∷◌, map, length, take, drop, Some, None, Ok, Err, Option, Result, sym, refl, ap, ◌∙◌, subst, ap₂, arith}
 use Rattle.std.proofs.lemmas.List.{take_rest}
 use Rattle.std.proofs.lemmas.Bool.{cond-true, cond-false, ltb-false, leb-true, le-leb, le-ltb, eqb-true, ne_eqb, or_parts, or_from, and_parts, and_from}
 use Rattle.lines.specs.declared.kind.Kind.{Kind}
 use Rattle.lines.specs.declared.kind.Kind.TheVariants.{Clause, Query}
 use Rattle.lines.specs.declared.faults.LineFault.{LineFault}
-use Rattle.lines.specs.declared.faults.LineFault.TheVariants.{Field, Length, Header, Missing}
-use Rattle.horn.specs.Terms.{Term, Terms, var, node, nil, cons, count, front, back, Name}
-use Rattle.lines.specs.Words.{run, word_of, GoodWord}
-use Rattle.horn.specs.Notation.{Word, name, structure, variable, field, arity, tails, joined, word_for, words, wordss}
+use Rattle.lines.specs.declared.faults.LineFault.TheVariants.{Length, Header, Missing}
+use Rattle.horn.specs.Terms.{Term, var, node, nil, cons, count, Name}
+use Rattle.lines.specs.Words.{run}
+use Rattle.horn.specs.Notation.{Word, variable, field, joined, word_for, words, wordss}
 use Rattle.lines.specs.Fields.{split, after}
-use Rattle.horn.specs.Clauses.{Written, Callables}
+use Rattle.horn.specs.Clauses.{Written}
 use Rattle.lines.specs.Lines.{then, ok_or, check, build, begins, goals_of, body, whole, read}
 use Rattle.lines.specs.Kinds.{mark, least, heads}
 use Rattle.lines.specs.Grammar.{spell, Good, Goods, Proper, Reading}

@@ -1,12 +1,12 @@
 -- The steps of `run` and of `every`.
-use Rattle.std.proofs.Common.{◌≡◌, ℕ, suc, ◌+◌, ◌-◌, ◌<◌, ◌≤◌, Bool, true, false, ◌&&◌, ◌||◌, eqb, leb, List, [], ◌∷◌, length, get_or, take, drop, Some, None, sym, refl, ap, ◌∙◌, ap₂, arith}
+use Rattle.std.proofs.Common.{◌≡◌, ℕ, suc, ◌+◌, ◌-◌, ◌<◌, ◌≤◌, Bool, true, false, ◌&&◌, ◌||◌, eqb, leb, List, [], ◌∷◌, length, get_or, take, drop, None, sym, refl, ap, ◌∙◌, ap₂, arith}
 use Rattle.std.proofs.lemmas.List.{at_drop_more, at_drop_all, take_rest}
 use Rattle.std.proofs.lemmas.Bool.{cond-true, cond-false, eq-eqb, ne_eqb}
 use Rattle.lines.specs.declared.faults.FieldFault.TheVariants.{Form}
-use Rattle.lines.specs.Limits.{name_limit, arity_limit}
+use Rattle.lines.specs.Limits.{name_limit}
 use Rattle.lines.specs.Words.{run, every, is_name, is_variable, lower, upper, plain, namely, shape, plainly, arity_of}
 use Rattle.lines.specs.Lines.{word_at, ok_or}
-use Rattle.lines.specs.Fields.{after, split}
+use Rattle.lines.specs.Fields.{after}
 use Rattle.lines.proofs.FieldLaws.{split-is}
 
 module _ (c : ℕ) (xs : List ℕ) (n : ℕ) where

@@ -1,16 +1,15 @@
 -- What is spelt by the grammar is accepted.
-use Rattle.std.proofs.Common.{◌≡◌, ℕ, zero, suc, ◌+◌, ◌-◌, ◌<◌, ◌≤◌, Bool, true, false, cond, ◌&&◌, ◌||◌, eqb, ltb, leb, List, [], ◌∷◌, ◌++◌, map, length, Some, None, Ok, Err, Option, Result, sym, refl, ap, ◌∙◌, subst, ap₂, arith}
-use Rattle.std.proofs.lemmas.Bool.{cond-true, cond-false, le-ltb}
-use Rattle.lines.specs.declared.faults.LineFault.{LineFault}
+use Rattle.std.proofs.Common.{◌≡◌, ℕ, zero, suc, ◌+◌, ◌≤◌, ltb, List, [], ◌∷◌, map, Ok, refl, ap, ◌∙◌, ap₂, arith}
+use Rattle.std.proofs.lemmas.Bool.{cond-false, le-ltb}
 use Rattle.lines.specs.declared.faults.LineFault.TheVariants.{Field}
 use Rattle.lines.specs.declared.faults.FieldFault.TheVariants.{Form}
-use Rattle.horn.specs.Terms.{Term, Terms, var, node, nil, cons, count, front, back, Name, join}
-use Rattle.horn.specs.Notation.{Word, name, structure, variable, field, arity, word_for, words, wordss}
-use Rattle.lines.specs.Words.{word_of, GoodWord}
-use Rattle.horn.specs.Clauses.{Written, Callable, Callables}
-use Rattle.lines.specs.Lines.{then, ok_or, word_at, cost, weighed, goal_only, check, push, noted, build}
+use Rattle.horn.specs.Terms.{Term, var, node, nil, cons, count, Name, join}
+use Rattle.horn.specs.Notation.{Word, variable, field, arity, word_for, words, wordss}
+use Rattle.lines.specs.Words.{GoodWord}
+use Rattle.horn.specs.Clauses.{Written, Callables}
+use Rattle.lines.specs.Lines.{then, ok_or, cost, weighed, goal_only, check, push, noted, build}
 use Rattle.lines.specs.Grammar.{Good, Goods}
-use Rattle.horn.specs.Weights.{own, weigh, weighs, under, load}
+use Rattle.horn.specs.Weights.{own, weigh, weighs, load}
 use Rattle.horn.proofs.JoinLaws.{join-nil, front-join, back-join}
 use Rattle.lines.proofs.WordLaws.{word-field}
 

@@ -1,9 +1,9 @@
 -- One field's step, in the reader's counts.
-use Rattle.std.proofs.Common.{◌≡◌, ℕ, zero, suc, ◌+◌, ◌-◌, ◌<◌, ◌≤◌, Bool, true, false, cond, eqb, ltb, List, [], ◌∷◌, Ok, Err, Result, sym, refl, ap, ◌∙◌, subst, ap₂, arith}
+use Rattle.std.proofs.Common.{◌≡◌, ℕ, zero, suc, ◌+◌, ◌-◌, ◌<◌, true, false, cond, eqb, ltb, List, [], ◌∷◌, Ok, Err, Result, sym, refl, ap, ◌∙◌, ap₂, arith}
 use mathlib.Core.Path.{fun_ext}
 use Rattle.std.proofs.lemmas.Bool.{ne_eqb}
 use Rattle.lines.specs.declared.faults.LineFault.{LineFault}
-use Rattle.lines.specs.declared.faults.LineFault.TheVariants.{Field, Variable, Heavy, Missing, LeftOver}
+use Rattle.lines.specs.declared.faults.LineFault.TheVariants.{Field, Heavy, Missing, LeftOver}
 use Rattle.lines.specs.declared.reader.Awaited.{Awaited}
 use Rattle.horn.specs.Notation.{Word, name, structure, variable, arity}
 use Rattle.lines.specs.Lines.{then, word_at, cost, weighed, goal_only, check}

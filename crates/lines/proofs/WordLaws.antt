@@ -1,11 +1,11 @@
 -- A word's bytes spell that word and no other.
-use Rattle.std.proofs.Common.{◌≡◌, ℕ, zero, suc, ◌+◌, ◌-◌, ◌<◌, ◌≤◌, Bool, true, false, cond, ◌&&◌, ◌||◌, eqb, ltb, leb, ◌⊎◌, List, [], ◌∷◌, ◌++◌, length, take, drop, Some, None, Option, sym, refl, ap, ◌∙◌, subst, ap₂, inl, inr, ⊎_elim, arith}
+use Rattle.std.proofs.Common.{◌≡◌, ℕ, suc, ◌+◌, ◌-◌, ◌≤◌, Bool, true, false, cond, ◌&&◌, ◌||◌, eqb, leb, List, [], ◌∷◌, ◌++◌, length, take, drop, Some, None, sym, refl, ap, ◌∙◌, subst, ap₂, ⊎_elim, arith}
 use Rattle.std.proofs.lemmas.List.{append-nil, take_at, drop_at, take_all, drop_all, take-append-drop}
-use Rattle.std.proofs.lemmas.Bool.{and_parts, and_from, or_cases, both_ways, ne_eqb, eqb-true, eq-eqb, leb-true, le-leb, cond-true, cond-false, cases_Bool}
+use Rattle.std.proofs.lemmas.Bool.{and_parts, and_from, or_cases, both_ways, ne_eqb, eqb-true, eq-eqb, leb-true, le-leb, cond-true, cond-false}
 use Rattle.std.proofs.lemmas.Bool.Decides.{nat_tests}
-use Rattle.horn.specs.Notation.{Word, name, structure, variable, field, arity}
-use Rattle.lines.specs.Limits.{name_limit, arity_limit}
-use Rattle.lines.specs.Words.{lower, upper, digit, plain, namely, every, is_name, is_variable, run, arity_of, plainly, shape, word_of, GoodWord}
+use Rattle.horn.specs.Notation.{Word, name, structure, variable, field}
+use Rattle.lines.specs.Limits.{name_limit}
+use Rattle.lines.specs.Words.{lower, upper, plain, namely, every, is_name, is_variable, run, arity_of, plainly, shape, word_of, GoodWord}
 
 -- c stands nowhere in the list
 abbrev pub Free : ℕ → List ℕ → Type 0

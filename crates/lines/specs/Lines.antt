@@ -1,11 +1,11 @@
 -- What a line says: its terms as they are written, or its first fault.
-use Rattle.std.specs.Prelude.{ℕ, zero, suc, ◌+◌, ◌-◌, Bool, true, false, cond, ◌&&◌, ◌||◌, List, [], ◌∷◌, length, Some, None, Ok, Err, Option, Result, ◌==◌, nat_le, nat_lt}
+use Rattle.std.specs.Prelude.{ℕ, zero, suc, ◌+◌, ◌-◌, Bool, false, cond, ◌&&◌, ◌||◌, List, [], ◌∷◌, length, Some, None, Ok, Err, Option, Result, ◌==◌, nat_le, nat_lt}
 use Rattle.lines.specs.declared.faults.FieldFault.{FieldFault}
 use Rattle.lines.specs.declared.faults.FieldFault.TheVariants.{Form}
 use Rattle.lines.specs.declared.kind.Kind.{Kind}
 use Rattle.lines.specs.declared.faults.LineFault.{LineFault}
 use Rattle.lines.specs.declared.faults.LineFault.TheVariants.{Field, Length, Header, Missing, LeftOver, Variable, Heavy}
-use Rattle.horn.specs.Terms.{Name, var, node, nil, cons, front, back}
+use Rattle.horn.specs.Terms.{var, node, nil, cons, front, back}
 use Rattle.horn.specs.Clauses.{Written}
 use Rattle.horn.specs.Weights.{line_weight_limit}
 use Rattle.horn.specs.Notation.{Word, name, structure, variable, arity}

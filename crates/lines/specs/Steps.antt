@@ -1,5 +1,5 @@
 -- One field's step of the reader.
-use Rattle.std.specs.Prelude.{ℕ, suc, ◌+◌, ◌-◌, cond, List, Ok, Err, Result, ◌==◌, nat_lt}
+use Rattle.std.specs.Prelude.{ℕ, ◌+◌, ◌-◌, cond, List, Ok, Err, Result, ◌==◌, nat_lt}
 use Rattle.lines.specs.declared.faults.LineFault.{LineFault}
 use Rattle.lines.specs.declared.faults.LineFault.TheVariants.{Variable, Heavy}
 use Rattle.lines.specs.declared.reader.Awaited.{Awaited}

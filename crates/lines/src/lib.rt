@@ -1,4 +1,6 @@
 // Lines: from bytes to a clause or a query, or a fault, and the lines that faults are written as.
+#![tactic(auto)]
+
 mod bytes;
 mod faults;
 mod fields;

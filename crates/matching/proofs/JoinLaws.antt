@@ -1,10 +1,9 @@
 -- Laws of a turn of matching.
-use Rattle.std.proofs.Common.{◌≡◌, ℕ, zero, suc, ◌+◌, ◌<◌, ◌≤◌, Bool, true, false, ◌≢◌, List, [], ◌∷◌, ◌++◌, length, set, MatchBool, sym, refl, ap, ◌∙◌, subst, subst₂, arith, length-append, length-set}
-use Rattle.std.specs.List.{AllByRecursion as All}
+use Rattle.std.proofs.Common.{◌≡◌, ℕ, ◌+◌, ◌<◌, Bool, true, false, ◌≢◌, List, [], ◌∷◌, ◌++◌, length, set, MatchBool, sym, refl, ap, ◌∙◌, subst, subst₂, arith, length-append, length-set}
 use Rattle.std.proofs.lemmas.List.{length_push, nil_from_length}
 use Rattle.std.proofs.ByRecursion.{All-append, All-push}
-use Rattle.heap.specs.Heaps.{Heap, cell, Names, Sound, Closed, Reach, here, step, Rooted, total, arity}
-use Rattle.heap.specs.Solutions.{Naming, Valuation, Sol, Tells, Root, Apart}
+use Rattle.heap.specs.Heaps.{Heap, cell, Sound, Closed, Reach, Rooted, total, arity}
+use Rattle.heap.specs.Solutions.{Naming, Valuation, Sol, Root, Apart}
 use Rattle.heap.specs.declared.cell.Cell.{Cell}
 use Rattle.heap.specs.declared.cell.Cell.TheVariants.{Unbound, Ref, Node}
 use Rattle.heap.proofs.HeapLaws.{sound-ref, closed-ref, total-set, node-within, reach-free, reach-constant}

@@ -1,7 +1,7 @@
 -- Laws of pairs in a row.
-use Rattle.std.proofs.Common.{◌≡◌, ℕ, zero, suc, ◌+◌, ◌<◌, ◌≤◌, List, [], ◌∷◌, ◌++◌, length, sym, refl, ap, ◌∙◌, ap₂, append_assoc, arith}
+use Rattle.std.proofs.Common.{◌≡◌, ℕ, zero, suc, ◌+◌, ◌<◌, ◌≤◌, List, [], ◌∷◌, ◌++◌, length, refl, ap, ◌∙◌, ap₂, append_assoc, arith}
 use Rattle.std.specs.List.{AllByRecursion as All}
-use Rattle.horn.specs.Terms.{Terms, cons}
+use Rattle.horn.specs.Terms.{cons}
 use Rattle.heap.specs.Heaps.{Heap}
 use Rattle.heap.specs.Solutions.{Valuation, span}
 use Rattle.matching.specs.Unifies.{Agree, Inside, pair, rows}

@@ -1,4 +1,6 @@
 // Matching of terms in cells, with the trail that takes it back.
+#![tactic(auto)]
+
 mod binding;
 mod joining;
 mod noting;

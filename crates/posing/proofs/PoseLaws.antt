@@ -1,29 +1,29 @@
 -- Laws of a query that is built from the right.
-use Rattle.std.proofs.Common.{◌≡◌, ℕ, zero, suc, ◌+◌, ◌-◌, ◌<◌, ◌≤◌, ◌⊎◌, List, [], ◌∷◌, ◌++◌, length, get_or, drop, set, Some, None, Option, sym, refl, ap, ◌∙◌, subst, ap₂, inl, inr, arith, length-drop, get_or-set_other, get_or-set_same}
+use Rattle.std.proofs.Common.{◌≡◌, ℕ, zero, suc, ◌+◌, ◌<◌, ◌≤◌, ◌⊎◌, List, [], ◌∷◌, ◌++◌, length, get_or, drop, Some, None, Option, sym, refl, ap, ◌∙◌, subst, ap₂, inl, inr, arith, length-drop, get_or-set_other, get_or-set_same}
 use native.Mathlib.Decide.{dec_lt, ℕ_discrete}
 use Rattle.std.specs.List.{AllByRecursion as All}
 use Rattle.std.proofs.lemmas.List.{length_push}
 use Rattle.std.proofs.ByRecursion.{All-weaker}
-use Rattle.horn.specs.Terms.{Term, Terms, var, node, nil, cons, front, back}
-use Rattle.heap.specs.Heaps.{Heap, cell, arity}
-use Rattle.heap.specs.Solutions.{Valuation, Sol, span}
-use Rattle.heap.specs.declared.cell.Cell.TheVariants.{Unbound, Ref, Node}
+use Rattle.horn.specs.Terms.{node, nil, cons, front, back}
+use Rattle.heap.specs.Heaps.{Heap, arity}
+use Rattle.heap.specs.Solutions.{Valuation, span}
+use Rattle.heap.specs.declared.cell.Cell.TheVariants.{Ref, Node}
 use Rattle.cells.specs.States.{Fine}
 use Rattle.cells.specs.Growth.{Spare}
 use Rattle.cells.proofs.StateLaws.{spare-none, spare-push}
 use Rattle.code.specs.declared.instructions.Operand.TheVariants.{Known, Constant as Fixed}
 use Rattle.code.specs.Meaning.{Symbols, Terming}
 use Rattle.entering.specs.declared.goal.Goal.{Goal}
-use Rattle.entering.specs.Goals.{worth, vals, Good}
-use Rattle.entering.specs.Turns.{Slots, Claim, Nothing, Stands, Turned, slot_cell, slot_set}
+use Rattle.entering.specs.Goals.{worth, Good}
+use Rattle.entering.specs.Turns.{Slots, Nothing, Stands, Turned, slot_cell, slot_set}
 use Rattle.entering.proofs.TurnLaws.{turned-map, turned_then, turned-still, turned-push}
 use Rattle.entering.proofs.OperandLaws.{turned-made}
-use Rattle.entering.proofs.StepLaws.{good_more, goods-more}
+use Rattle.entering.proofs.StepLaws.{goods-more}
 use Rattle.posing.specs.declared.pieces.Piece.{Piece}
 use Rattle.posing.specs.declared.pieces.Piece.TheVariants.{Constant, Variable, Structure, Goal as Asks}
 use Rattle.posing.specs.declared.pieces.Entry.{Entry}
 use Rattle.posing.specs.declared.pieces.Entry.TheVariants.{Constant as Atom, Variable as Slot, Cell as Place}
-use Rattle.posing.specs.Queries.{stack, goals_of, waits, weighs, Occurs}
+use Rattle.posing.specs.Queries.{stack}
 use Rattle.posing.specs.Stacks.{term, terms_of, Laid, Sits, Reads, seated, seated_slots, Has, Waiting, Posing, Seating}
 
 -- a cell for an entry

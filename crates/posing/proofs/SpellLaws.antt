@@ -1,16 +1,13 @@
 -- The words of a query's terms stand for them.
-use Rattle.std.proofs.Common.{◌≡◌, ℕ, zero, suc, ◌+◌, ◌-◌, ◌<◌, ◌≤◌, List, [], ◌∷◌, length, get_or, sym, refl, ap, ◌∙◌, subst, ap₂, arith}
+use Rattle.std.proofs.Common.{◌≡◌, ℕ, suc, ◌+◌, ◌<◌, ◌≤◌, List, ◌∷◌, length, get_or, sym, refl, ap, ◌∙◌, ap₂, arith}
 use Rattle.horn.specs.Terms.{Name, Term, Terms, var, node, nil, cons, count, join, front, back, eval, evals}
 use Rattle.horn.specs.Clauses.{Variable, blank, Query, Callables}
-use Rattle.horn.specs.Weights.{weigh, weighs as weigh_terms, under, load, query_weight, own}
+use Rattle.horn.specs.Weights.{weigh, weighs as weigh_terms, load, own}
 use Rattle.horn.proofs.JoinLaws.{front-join, back-join}
-use Rattle.heap.specs.Solutions.{span}
 use Rattle.code.specs.Meaning.{Symbols, Terming}
-use Rattle.entering.specs.Paths.{values}
 use Rattle.posing.specs.declared.pieces.Piece.{Piece}
-use Rattle.posing.specs.declared.pieces.Piece.TheVariants.{Constant, Variable as Slot, Structure, Goal}
 use Rattle.posing.specs.Queries.{stack, goals_of, waits, weighs, Fit}
-use Rattle.posing.specs.Spelling.{Numbers, headed, pieces, piecess, goal_pieces, query_pieces, Right, Rights, OwnNumbers, Spelled, QuerySpelled}
+use Rattle.posing.specs.Spelling.{Numbers, headed, pieces, piecess, query_pieces, Right, Rights, QuerySpelled}
 use Rattle.posing.proofs.StoredLaws.{values-span}
 
 evals-count : (ts : Terms Variable) (τ : Variable → Term ℕ) → count (evals ts τ) ≡ count ts

@@ -1,12 +1,12 @@
 -- From the cells of a query to the empty path.
-use Rattle.std.proofs.Common.{◌≡◌, ℕ, zero, suc, ◌+◌, ◌<◌, ◌≤◌, List, [], ◌∷◌, length, get_or, Some, None, Option, sym, refl, ap, ◌∙◌, subst, ap₂, arith}
-use Rattle.horn.specs.Terms.{Term, Terms, var, cons, evals}
+use Rattle.std.proofs.Common.{◌≡◌, ℕ, suc, ◌+◌, ◌<◌, List, [], ◌∷◌, length, get_or, Some, None, Option, sym, refl, ap, ◌∙◌, ap₂, arith}
+use Rattle.horn.specs.Terms.{Term, var, cons}
 use Rattle.horn.specs.Clauses.{Variable, blank}
 use Rattle.heap.specs.Solutions.{Valuation, span}
-use Rattle.code.specs.Meaning.{Symbols, Terming}
+use Rattle.code.specs.Meaning.{Terming}
 use Rattle.entering.specs.Goals.{vals}
 use Rattle.entering.specs.Paths.{terms, values}
-use Rattle.posing.specs.Stored.{Spells, Placed, StartStores}
+use Rattle.posing.specs.Stored.{StartStores}
 
 abbrev slot_term : Option ℕ → Valuation → Term ℕ
 slot_term None ρ = var 0

@@ -1,6 +1,6 @@
 -- The words of a query in prefix order, and the terms that they stand for.
 use Rattle.std.specs.Prelude.{◌≡◌, ℕ, ◌+◌, ◌-◌, ◌<◌, ◌≤◌, ◌⊎◌, List, [], ◌∷◌, length, slice_index}
-use Rattle.horn.specs.Terms.{Term, Terms, var, node, nil, cons, front, back}
+use Rattle.horn.specs.Terms.{Terms, node, nil, cons, front, back}
 use Rattle.code.specs.Meaning.{Symbols, Terming}
 use Rattle.posing.specs.declared.pieces.Piece.{Piece}
 use Rattle.posing.specs.declared.pieces.Piece.TheVariants.{Constant, Variable, Structure, Goal}

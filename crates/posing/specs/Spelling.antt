@@ -1,5 +1,5 @@
 -- The words of a query's terms, where each symbol and each variable has a number.
-use Rattle.std.specs.Prelude.{◌≡◌, ℕ, ◌+◌, ◌<◌, ◌≤◌, List, [], ◌∷◌, length, slice_index, slice_index_or}
+use Rattle.std.specs.Prelude.{◌≡◌, ℕ, ◌<◌, ◌≤◌, List, [], ◌∷◌, length, slice_index, slice_index_or}
 use Rattle.horn.specs.Terms.{Name, Term, Terms, var, node, nil, cons, count}
 use Rattle.horn.specs.Clauses.{Variable, blank, Query, Callables}
 use Rattle.horn.specs.Weights.{query_weight}

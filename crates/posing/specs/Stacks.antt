@@ -5,7 +5,7 @@ use Rattle.horn.specs.Terms.{Term, Terms, node, nil, cons}
 use Rattle.heap.specs.Heaps.{Heap}
 use Rattle.heap.specs.Solutions.{Valuation}
 use Rattle.heap.specs.declared.cell.Cell.{Cell}
-use Rattle.heap.specs.declared.cell.Cell.TheVariants.{Unbound, Ref, Node}
+use Rattle.heap.specs.declared.cell.Cell.TheVariants.{Ref, Node}
 use Rattle.cells.specs.Growth.{Spare}
 use Rattle.code.specs.Meaning.{Symbols, Terming}
 use Rattle.entering.specs.declared.goal.Goal.{Goal}

@@ -1,4 +1,6 @@
 // Setting up a query: cells for its variables, structures and goals.
+#![tactic(auto)]
+
 mod entries;
 mod pieces;
 mod starting;

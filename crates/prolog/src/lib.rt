@@ -1,4 +1,6 @@
 // The lines of a deck as Prolog text.
+#![tactic(auto)]
+
 mod clauses;
 mod proofread;
 mod refusals;

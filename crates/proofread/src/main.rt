@@ -1,4 +1,6 @@
 // Reads a deck aloud: each line of standard input in Prolog notation, or its refusal.
+#![tactic(auto)]
+
 use lines::Gathered;
 use prolog::{Verdict, proof_line};
 use std::alloc::{AllocError, Global};

@@ -1,4 +1,6 @@
 // A stack over a lent slice, for entries of any kind.
+#![tactic(auto)]
+
 mod ends;
 mod stack;
 

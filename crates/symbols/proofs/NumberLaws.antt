@@ -1,10 +1,10 @@
 -- Symbols and variables by their numbers.
-use Rattle.std.proofs.Common.{◌≡◌, ℕ, zero, suc, ◌+◌, ◌<◌, ◌≤◌, Bool, true, false, cond, ◌&&◌, eqb, ltb, ◌⊎◌, List, [], ◌∷◌, ◌++◌, map, length, get_or, Some, None, Option, sym, refl, ap, ◌∙◌, subst, ap₂, inl, inr, arith, length-append}
+use Rattle.std.proofs.Common.{◌≡◌, ℕ, zero, suc, ◌+◌, ◌<◌, ◌≤◌, Bool, true, false, cond, eqb, ltb, ◌⊎◌, List, [], ◌∷◌, ◌++◌, length, get_or, Some, None, sym, refl, ap, ◌∙◌, subst, ap₂, inl, inr, arith, length-append}
 use Rattle.std.proofs.lemmas.List.{get_or_push, get_or_append_left}
-use Rattle.std.proofs.lemmas.Bool.{eqb-true, eq-eqb, and_parts, and_from, lt-ltb, ltb-true, ltb-false, le-ltb, cond-true, cond-false, cases_eq, cases_lt}
+use Rattle.std.proofs.lemmas.Bool.{eqb-true, eq-eqb, and_parts, and_from, lt-ltb, ltb-true, ltb-false, le-ltb, cond-true, cond-false, cases_lt}
 use Rattle.horn.specs.Terms.{Name}
 use Rattle.horn.specs.Clauses.{Variable, named, blank, is_blank, called, meant}
-use Rattle.symbols.specs.Symbols.{Symbol, Signature, symbol_at, name_at, arity_at}
+use Rattle.symbols.specs.Symbols.{Signature, name_at, arity_at}
 use Rattle.horn.specs.Equations.{same_name}
 use Rattle.symbols.specs.Numbers.{is_symbol, number_in, found, known_variable, names_of, blanks_in, number_of, noted}
 

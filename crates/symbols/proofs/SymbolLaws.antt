@@ -1,9 +1,9 @@
 -- Lists of the first values of a function.
-use Rattle.std.proofs.Common.{◌≡◌, ℕ, zero, suc, ◌+◌, ◌<◌, ◌≤◌, ◌⊎◌, List, [], ◌∷◌, ◌++◌, map, length, get_or, take, sym, refl, ap, ◌∙◌, inl, inr, arith, length-append}
+use Rattle.std.proofs.Common.{◌≡◌, ℕ, zero, suc, ◌+◌, ◌<◌, ◌≤◌, [], ◌∷◌, ◌++◌, map, length, get_or, take, sym, refl, ap, ◌∙◌, inl, inr, arith, length-append}
 use Rattle.std.proofs.lemmas.List.{get_or_push, get_or_append_left, get_or_past, map-append, take_more}
 use Rattle.std.proofs.lemmas.Bool.{cases_eq, cases_lt}
 use Rattle.symbols.specs.Tables.{up_to, symbol_in, signature}
-use Rattle.symbols.specs.Symbols.{arity_at, arities_of}
+use Rattle.symbols.specs.Symbols.{arity_at}
 use Rattle.symbols.specs.declared.table.SymbolTable.{SymbolTable}
 
 pub up_to-long : {X : Type 0} (n : ℕ) (f : ℕ → X) → length (up_to n f) ≡ n

@@ -1,5 +1,5 @@
 -- Words whose symbols can be noted, and tables that begin alike.
-use Rattle.std.specs.Prelude.{◌≡◌, ℕ, ◌≤◌, List, [], ◌∷◌, ◌++◌, length}
+use Rattle.std.specs.Prelude.{◌≡◌, ◌≤◌, List, [], ◌∷◌, ◌++◌, length}
 use Rattle.horn.specs.Notation.{Word, name, structure, variable}
 use Rattle.symbols.specs.Symbols.{Signature}
 

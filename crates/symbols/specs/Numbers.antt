@@ -1,5 +1,5 @@
 -- The numbers of symbols and variables, by first occurrence.
-use Rattle.std.specs.Prelude.{ℕ, zero, suc, ◌+◌, ◌<◌, ◌≤◌, Bool, true, false, cond, ◌&&◌, List, [], ◌∷◌, ◌++◌, map, length, Some, None, Option, ◌==◌, nat_lt}
+use Rattle.std.specs.Prelude.{ℕ, zero, suc, ◌+◌, ◌<◌, ◌≤◌, Bool, cond, ◌&&◌, List, [], ◌∷◌, ◌++◌, map, length, Some, None, Option, ◌==◌, nat_lt}
 use Rattle.horn.specs.Terms.{Name}
 use Rattle.horn.specs.Clauses.{Variable, named, blank, is_blank, called, meant}
 use Rattle.horn.specs.Notation.{Word, name, structure, variable, arity}

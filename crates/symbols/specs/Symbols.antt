@@ -1,5 +1,5 @@
 -- Symbols by their numbers.
-use Rattle.std.specs.Prelude.{ℕ, List, [], ◌∷◌, map, slice_index_or}
+use Rattle.std.specs.Prelude.{ℕ, List, [], map, slice_index_or}
 use Rattle.horn.specs.Terms.{Name}
 use Rattle.code.specs.Meaning.{Symbols}
 

@@ -1,4 +1,6 @@
 // Symbols: names with their arities, numbered by first occurrence, and variables, numbered alike.
+#![tactic(auto)]
+
 mod lookup;
 mod names;
 mod noting;

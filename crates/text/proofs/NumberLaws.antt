@@ -1,10 +1,10 @@
 -- Numbers with a comma before each, one after another.
-use Rattle.std.proofs.Common.{◌≡◌, ℕ, suc, ◌+◌, ◌-◌, ◌<◌, ◌≤◌, Bool, true, false, cond, leb, List, [], ◌∷◌, ◌++◌, map, length, get_or, drop, set, Some, None, decimal, Option, sym, refl, ap, ◌∙◌, ap₂, arith}
+use Rattle.std.proofs.Common.{◌≡◌, ℕ, suc, ◌+◌, ◌<◌, ◌≤◌, Bool, true, false, cond, leb, List, [], ◌∷◌, ◌++◌, map, length, get_or, drop, set, Some, None, decimal, sym, refl, ap, ◌∙◌, ap₂, arith}
 use Rattle.std.proofs.lemmas.List.{at_drop_more, at_drop_all, length-append}
 use Rattle.std.proofs.lemmas.Bool.{cond-true, cond-false, le-leb, lt-leb, leb-true, leb-false}
 use Rattle.horn.specs.Notation.{tails}
 use Rattle.text.specs.Buffers.{wrote, fitting, filled}
-use Rattle.text.proofs.Wrote.{wrote_none, wrote_one, wrote-more}
+use Rattle.text.proofs.Wrote.{wrote_one, wrote-more}
 
 -- the numbers from i on
 abbrev pub left : List ℕ → ℕ → List ℕ

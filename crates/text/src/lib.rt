@@ -1,4 +1,6 @@
 // Text in lent buffers: lines of numbers.
+#![tactic(auto)]
+
 mod decimals;
 mod numbers;
 

@@ -1,4 +1,6 @@
 // Matches terms: for each line `U,term,term` of standard input, `yes` with the common instance, or `no`.
+#![tactic(auto)]
+
 mod building;
 mod parts;
 mod problem;

@@ -1,4 +1,4 @@
-use Rattle.std.proofs.Common.{◌≡◌, [], take, sym, refl, ap, subst, arith}
+use Rattle.std.proofs.Common.{[], take, sym, refl, ap, subst, arith}
 use Rattle.cells.specs.States.{Fine}
 use Rattle.cells.proofs.StateLaws.{fine-none}
 use Rattle.cells.proofs.areas.empty.Goals as goal

@@ -1,5 +1,4 @@
 use Rattle.std.proofs.Common.{true, false, ap, ◌∙◌, arith, rules}
-use Rattle.code.specs.Words.{decode}
 use Rattle.code.specs.Instructions.{within}
 use Rattle.code.proofs.Turns.{total-step, total-end}
 use Rattle.code.proofs.frame.count_calls.Goals.{then-within, else-within}

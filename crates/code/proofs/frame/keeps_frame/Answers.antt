@@ -1,7 +1,6 @@
 use Rattle.std.proofs.Common.{◌<◌, true, false, eqb, leb, length, sym, refl, ap, ◌∙◌, rules}
 use Rattle.std.proofs.lemmas.Bool.{ne_eqb, eq-eqb, lt-leb, le-leb}
 use Rattle.code.specs.Instructions.{number}
-use Rattle.code.specs.Words.{decode}
 use Rattle.code.proofs.FrameLaws.{frame-none, frame-by}
 use Rattle.code.proofs.Turns.{rest}
 use Rattle.code.proofs.frame.keeps_frame.Goals as goal

@@ -1,6 +1,6 @@
 use Rattle.std.proofs.Common.{◌≡◌, ℕ, ◌+◌, true, false, List, map, length, drop, Option, sym, refl, ap, ◌∙◌, ap₂, rules}
 use Rattle.std.proofs.lemmas.List.{at_drop_all}
-use Rattle.code.specs.Instructions.{reads, sets}
+use Rattle.code.specs.Instructions.{sets}
 use Rattle.code.specs.Words.{decode}
 use Rattle.code.specs.Rules.{builds}
 use Rattle.code.specs.Passes.{can_read, can_set, marked, slot_pass}

@@ -1,8 +1,4 @@
-use Rattle.std.proofs.Common.{◌≡◌, length, take, drop, sym, refl, ap, ◌∙◌, subst}
-use Rattle.matching.specs.Trails.{undone}
-use Rattle.cells.specs.Growth.{Grew, Saves}
-use Rattle.cells.specs.Stores.{cells_of, bound_of}
-use Rattle.cells.proofs.GrowthLaws.{grew_none, grew-cells, grew-trail, saves-grew}
+use Rattle.std.proofs.Common.{◌∙◌}
 use Rattle.entry.proofs.EndLaws.{left-cells, left-trail, left-grew, left-saves}
 use Rattle.entry.proofs.clauses.attempt.Goals as goal
 

@@ -1,6 +1,5 @@
-use Rattle.std.proofs.Common.{◌≡◌, [], map, length, take, sym, refl, ap, ◌∙◌, subst, arith, rules}
+use Rattle.std.proofs.Common.{◌≡◌, [], map, length, take, sym, ◌∙◌, subst, arith}
 use Rattle.std.proofs.lemmas.List.{length-take-le}
-use Rattle.cells.specs.Stores.{cells_of, bound_of}
 use Rattle.code.specs.Words.{decode}
 use Rattle.code.specs.Rules.{opened}
 use Rattle.entering.specs.Ready.{Ready}

@@ -1,9 +1,5 @@
-use Rattle.std.proofs.Common.{◌≡◌, map, length, sym, refl, ap, ◌∙◌, arith, rules}
-use Rattle.cells.specs.Stores.{cells_of, bound_of}
+use Rattle.std.proofs.Common.{arith}
 use Rattle.cells.proofs.GrowthLaws.{grew_none, grew_trans}
-use Rattle.code.specs.Limits.{call_limit}
-use Rattle.entering.specs.States.{setting}
-use Rattle.entry.specs.Runs.{state_at}
 use Rattle.entry.proofs.EndLaws.{reached-none, reached-going, reached-more, reached-stuck, reached-end}
 use Rattle.entry.proofs.clauses.run.Goals as goal
 

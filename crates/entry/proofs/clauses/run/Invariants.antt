@@ -1,4 +1,4 @@
-use Rattle.std.proofs.Common.{◌-◌, length, take}
+use Rattle.std.proofs.Common.{◌-◌, length}
 use Rattle.cells.specs.Growth.{Grew}
 use Rattle.cells.specs.Stores.{cells_of, bound_of}
 use Rattle.code.specs.Limits.{call_limit}

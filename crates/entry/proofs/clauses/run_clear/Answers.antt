@@ -1,5 +1,5 @@
-use Rattle.std.proofs.Common.{◌≡◌, [], map, length, sym, refl, ap, ◌∙◌, subst, arith}
-use Rattle.cells.specs.Stores.{cells_of, bound_of}
+use Rattle.std.proofs.Common.{[], map, length, sym, subst}
+use Rattle.cells.specs.Stores.{cells_of}
 use Rattle.code.specs.Words.{decode}
 use Rattle.entering.specs.Ready.{Ready}
 use Rattle.entry.proofs.StoreLaws.{store-fine}

@@ -1,5 +1,5 @@
-use Rattle.std.proofs.Common.{◌≡◌, refl, ap, arith}
-use Rattle.cells.specs.Stores.{cells_of, bound_of}
+use Rattle.std.proofs.Common.{ap, arith}
+use Rattle.cells.specs.Stores.{cells_of}
 use Rattle.entering.specs.Turns.{Is}
 use Rattle.entry.proofs.GetLaws.{inside-long, slot-told, constant-any}
 use Rattle.entry.proofs.operands.get.Goals as goal

@@ -1,6 +1,6 @@
 use Rattle.std.proofs.Common.{refl, arith}
 use Rattle.cells.proofs.GrowthLaws.{grew_none, grew-kept}
-use Rattle.cells.specs.Stores.{cells_of, bound_of}
+use Rattle.cells.specs.Stores.{cells_of}
 use Rattle.entering.proofs.TurnLaws.{inside-set}
 use Rattle.entry.proofs.GetLaws.{inside-long, known-told, fresh-told}
 use Rattle.entry.proofs.operands.get_slot.Goals as goal

@@ -1,7 +1,6 @@
-use Rattle.std.proofs.Common.{◌≡◌, ◌+◌, length, get_or, refl, subst, arith, rules}
+use Rattle.std.proofs.Common.{◌≡◌, ◌+◌, length, get_or, refl, subst, arith}
 use Rattle.code.specs.declared.instructions.Operand.TheVariants.{Fresh}
 use Rattle.cells.specs.Stores.{cells_of, bound_of}
-use Rattle.entering.specs.Turns.{Taken}
 use Rattle.entry.specs.Operands.{put_at}
 use Rattle.entry.specs.Loops.{Building}
 use Rattle.entry.proofs.StoreLaws.{store-fine}

@@ -1,10 +1,9 @@
-use Rattle.std.proofs.Common.{◌≡◌, ◌+◌, ◌-◌, ◌^◌, ◌<◌, ◌≤◌, true, false, length, get_or, sym, refl, ap, ◌∙◌, subst, arith, rules}
+use Rattle.std.proofs.Common.{◌-◌, length, sym, ◌∙◌, arith}
 use Rattle.heap.specs.Limits.{cell_limit}
-use Rattle.cells.specs.Stores.{cells_of, bound_of}
+use Rattle.cells.specs.Stores.{cells_of}
 use Rattle.cells.proofs.GrowthLaws.{grew_none}
-use Rattle.code.specs.declared.instructions.Instruction.TheVariants.{Allocate, Get, GetStructure, Unify, Put, PutStructure, Set, Call, Proceed}
+use Rattle.code.specs.declared.instructions.Instruction.TheVariants.{Get, GetStructure, Put, PutStructure, Call}
 use Rattle.entering.proofs.OperandLaws.{takes-taken}
-use Rattle.entering.proofs.StepLaws.{get-within}
 use Rattle.entry.proofs.StoreLaws.{store-few}
 use Rattle.entry.proofs.WordLaws.{going-word, advance-allocate, advance-proceed, advance-unify, advance-set, advance-put, advance-get, stuck-got, structure-long, structure-taken, structure-room, advance-get-structure, stuck-get-structure, advance-put-structure, stuck-put-structure, call-taken, call-count, advance-call}
 use Rattle.entry.proofs.steps.step.Goals as goal

@@ -1,6 +1,5 @@
-use Rattle.std.proofs.Common.{◌≡◌, length, subst, arith, rules}
+use Rattle.std.proofs.Common.{◌≡◌, length, subst, arith}
 use Rattle.cells.specs.Stores.{cells_of, bound_of}
-use Rattle.entering.specs.Turns.{Taken}
 use Rattle.entry.specs.Operands.{op_at}
 use Rattle.entry.specs.Loops.{Building}
 use Rattle.entry.proofs.StoreLaws.{store-fine}

@@ -1,4 +1,4 @@
-use Rattle.std.proofs.Common.{◌≡◌, ◌+◌, ◌<◌, ◌≤◌, true, false, length, sym, ap, subst, arith, rules}
+use Rattle.std.proofs.Common.{◌≡◌, length, subst, arith}
 use Rattle.cells.specs.Stores.{cells_of, bound_of}
 use Rattle.cells.proofs.GrowthLaws.{grew_trans}
 use Rattle.entry.specs.Operands.{op_at}

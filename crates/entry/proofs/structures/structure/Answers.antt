@@ -1,6 +1,6 @@
-use Rattle.std.proofs.Common.{◌≡◌, ◌+◌, ◌<◌, ◌≤◌, length, sym, refl, ap, ◌∙◌, subst, arith}
+use Rattle.std.proofs.Common.{sym, ◌∙◌, arith}
 use Rattle.heap.proofs.HeapLaws.{node-within}
-use Rattle.cells.specs.Stores.{cells_of, bound_of}
+use Rattle.cells.specs.Stores.{cells_of}
 use Rattle.cells.proofs.GrowthLaws.{grew_none, grew_trans}
 use Rattle.entry.specs.Operands.{op_at}
 use Rattle.entry.proofs.StoreLaws.{store-fine}

@@ -1,10 +1,8 @@
-use Rattle.std.proofs.Common.{◌≡◌, ◌<◌, [], ◌∷◌, ◌++◌, length, sym, refl, ap, ◌∙◌, subst, arith}
+use Rattle.std.proofs.Common.{◌≡◌, ◌<◌, [], ◌∷◌, ◌++◌, length, ap, ◌∙◌, arith}
 use Rattle.std.proofs.lemmas.List.{length_push}
 use Rattle.heap.specs.declared.cell.Cell.TheVariants.{Node}
-use Rattle.cells.specs.Growth.{Grew}
-use Rattle.cells.specs.Stores.{cells_of, bound_of}
+use Rattle.cells.specs.Stores.{cells_of}
 use Rattle.cells.proofs.StateLaws.{grown-room}
-use Rattle.cells.proofs.GrowthLaws.{grew-push, grew_trans}
 use Rattle.entry.specs.Operands.{op_at}
 use Rattle.entry.proofs.GetLaws.{inside-long}
 use Rattle.entry.proofs.StructureLaws.{built-structure, pushed_grew}

@@ -1,4 +1,4 @@
-use Rattle.std.proofs.Common.{◌≡◌, ◌∙◌}
+use Rattle.std.proofs.Common.{◌∙◌}
 use Rattle.heap.proofs.HeapLaws.{edge-ref}
 use Rattle.heap.proofs.SolutionLaws.{says-ref}
 use Rattle.heap.proofs.Chains.{walk-less}

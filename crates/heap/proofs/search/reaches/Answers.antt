@@ -1,7 +1,7 @@
-use Rattle.std.proofs.Common.{◌≡◌, ◌+◌, ◌≤◌, length, take, sum_by, sym, refl, ap, ◌∙◌, subst, arith}
+use Rattle.std.proofs.Common.{◌≡◌, length, take, sum_by, refl, ap, ◌∙◌, subst, arith}
 use Rattle.std.proofs.lemmas.List.{length-take-le}
 use Rattle.heap.specs.Heaps.{Reach}
-use Rattle.heap.specs.Marks.{marked, blank}
+use Rattle.heap.specs.Marks.{blank}
 use Rattle.heap.proofs.MarkLaws.{search-begin, search-turn, search-falls, search-end, search-met, blanks-all, not-true}
 use Rattle.heap.proofs.search.reaches.Goals as goal
 

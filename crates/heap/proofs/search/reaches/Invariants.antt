@@ -1,4 +1,4 @@
-use Rattle.std.proofs.Common.{◌≡◌, ◌+◌, ◌≤◌, length, take, sum_by}
+use Rattle.std.proofs.Common.{◌+◌, ◌≤◌, length, take, sum_by}
 use Rattle.heap.specs.Limits.{cell_limit}
 use Rattle.heap.specs.Marks.{marked, blank, Search}
 use Rattle.heap.proofs.search.reaches.Given as goal

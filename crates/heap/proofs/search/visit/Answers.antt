@@ -1,7 +1,7 @@
-use Rattle.std.proofs.Common.{◌≡◌, ◌+◌, ◌<◌, ◌≤◌, false, eqb, length, get_or, take, sum_by, sym, ap, ◌∙◌, arith}
+use Rattle.std.proofs.Common.{◌≡◌, ◌<◌, ◌≤◌, false, eqb, length, get_or, take, sym, ap, ◌∙◌, arith}
 use Rattle.std.proofs.lemmas.List.{length-take-le, length-map}
 use Rattle.stack.proofs.Pushes.{pushed}
-use Rattle.heap.specs.Marks.{marked, blank}
+use Rattle.heap.specs.Marks.{marked}
 use Rattle.heap.proofs.MarkLaws.{visit-more, visit-less, visit-all, visit-room}
 use Rattle.heap.proofs.search.visit.Goals as goal
 use Rattle.heap.proofs.search.visit.Goals.{then-not-has, else-not-has}

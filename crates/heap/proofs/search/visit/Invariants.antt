@@ -1,5 +1,5 @@
-use Rattle.std.proofs.Common.{◌≡◌, ◌+◌, ◌≤◌, length, take, sum_by}
-use Rattle.heap.specs.Marks.{marked, blank, Visited}
+use Rattle.std.proofs.Common.{◌≡◌, length, take}
+use Rattle.heap.specs.Marks.{marked, Visited}
 use Rattle.heap.proofs.search.visit.Given as goal
 
 abbrev pub invariant-loop-k : goal.invariant-loop-k

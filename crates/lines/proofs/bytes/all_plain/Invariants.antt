@@ -1,4 +1,4 @@
-use Rattle.std.proofs.Common.{◌≡◌, length, drop}
+use Rattle.std.proofs.Common.{◌≡◌, drop}
 use Rattle.lines.specs.Words.{every, plain}
 use Rattle.lines.proofs.bytes.all_plain.Given as goal
 

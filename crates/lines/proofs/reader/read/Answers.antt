@@ -1,12 +1,9 @@
-use Rattle.std.proofs.Common.{◌≡◌, ℕ, ◌+◌, ◌-◌, ◌<◌, ◌≤◌, List, [], ◌∷◌, length, take, drop, IfOk, Ok, Err, Result, sym, refl, ap, ◌∙◌, subst, ap₂, arith, rules}
+use Rattle.std.proofs.Common.{◌≡◌, ◌+◌, ◌<◌, length, IfOk, Ok, Err, sym, refl, ap, ◌∙◌, subst, ap₂, rules}
 use Rattle.std.proofs.lemmas.Result.{err_from_is_err_and}
-use Rattle.lines.specs.declared.faults.LineFault.{LineFault}
 use Rattle.lines.specs.Fields.{after}
-use Rattle.lines.specs.Lines.{read, body, check, then}
+use Rattle.lines.specs.Lines.{check}
 use Rattle.lines.specs.Kinds.{heads, least}
-use Rattle.horn.specs.Clauses.{Written}
-use Rattle.horn.specs.Weights.{load}
-use Rattle.lines.specs.Said.{said, terms_of, Counted}
+use Rattle.lines.specs.Said.{said, Counted}
 use Rattle.lines.proofs.Readings.{read_first, read-body, body-none, body-wrong, body-goals}
 use Rattle.lines.proofs.Counts.{goals-are, weight_is, tokens-are}
 use Rattle.lines.proofs.reader.read.Goals as goal

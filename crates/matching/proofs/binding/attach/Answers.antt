@@ -1,5 +1,4 @@
-use Rattle.std.proofs.Common.{◌≡◌, sym, ◌∙◌}
-use Rattle.heap.proofs.MarkLaws.{not-true}
+use Rattle.std.proofs.Common.{◌∙◌}
 use Rattle.matching.proofs.JoinLaws.{reach-none}
 use Rattle.matching.proofs.binding.attach.Goals as goal
 

@@ -1,4 +1,4 @@
-use Rattle.std.proofs.Common.{◌≡◌, take, sym, refl, ap, ◌∙◌, arith}
+use Rattle.std.proofs.Common.{◌≡◌, sym, refl, ap, ◌∙◌, arith}
 use Rattle.heap.specs.Heaps.{cell, arity}
 use Rattle.heap.specs.declared.cell.Cell.TheVariants.{Unbound, Ref}
 use Rattle.heap.proofs.HeapLaws.{node-fits, total-set, root-free}

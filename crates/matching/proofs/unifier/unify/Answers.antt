@@ -1,7 +1,7 @@
-use Rattle.std.proofs.Common.{◌≡◌, ◌+◌, ◌<◌, [], ◌∷◌, ◌++◌, length, take, sym, refl, ap, ◌∙◌, subst, arith}
-use Rattle.std.proofs.lemmas.List.{length-take-le, nil_from_length, length_push}
+use Rattle.std.proofs.Common.{◌≡◌, ◌<◌, [], ◌∷◌, ◌++◌, length, take, sym, refl, ap, ◌∙◌, subst, arith}
+use Rattle.std.proofs.lemmas.List.{length-take-le, nil_from_length}
 use Rattle.stack.proofs.Pushes.{pushed}
-use Rattle.heap.specs.Heaps.{Sound, Closed, total, arity}
+use Rattle.heap.specs.Heaps.{Sound, Closed}
 use Rattle.matching.specs.Unifies.{pair}
 use Rattle.matching.proofs.TrailLaws.{kept-none, kept_trans}
 use Rattle.matching.proofs.JoinLaws.{pair_inside, fewer-pairs, turn-same, turn-joined, turn-apart, unifying-none, unifying-all}

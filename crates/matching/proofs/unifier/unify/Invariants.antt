@@ -1,4 +1,4 @@
-use Rattle.std.proofs.Common.{◌≡◌, ◌+◌, ◌≤◌, length, take}
+use Rattle.std.proofs.Common.{◌≡◌, ◌+◌, length, take}
 use Rattle.heap.specs.Heaps.{total, arity}
 use Rattle.matching.specs.Trails.{Kept}
 use Rattle.matching.specs.Unifies.{Unifying}

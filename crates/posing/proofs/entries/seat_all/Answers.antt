@@ -1,4 +1,4 @@
-use Rattle.std.proofs.Common.{◌≡◌, ◌-◌, length, get_or, sym, refl, ap, subst, arith}
+use Rattle.std.proofs.Common.{◌≡◌, ◌-◌, get_or, refl, subst, arith}
 use Rattle.cells.specs.Stores.{cells_of}
 use Rattle.posing.specs.declared.pieces.Entry.TheVariants.{Constant}
 use Rattle.posing.specs.Stacks.{entry_at, Seating}

@@ -1,10 +1,9 @@
-use Rattle.std.proofs.Common.{◌≡◌, ◌+◌, ◌-◌, ◌<◌, ◌≤◌, [], ◌∷◌, length, get_or, drop, sym, refl, ap, ◌∙◌, subst, arith, rules}
+use Rattle.std.proofs.Common.{◌≡◌, ◌<◌, ◌≤◌, [], length, drop, sym, ◌∙◌, subst, arith}
 use Rattle.std.proofs.lemmas.List.{drop_all}
 use Rattle.cells.specs.Stores.{cells_of}
 use Rattle.posing.specs.Stacks.{Posing}
-use Rattle.posing.specs.Queries.{Fit, FitOne, waits, asked}
+use Rattle.posing.specs.Queries.{Fit, waits, asked}
 use Rattle.posing.specs.Starts.{from_top, no_entry, no_goal}
-use Rattle.posing.specs.declared.pieces.Piece.TheVariants.{Constant}
 use Rattle.posing.proofs.PoseLaws.{posing-none}
 use Rattle.posing.proofs.StartLaws.{top-length, piece-before, fit-before, asked-before, room-before, started, stands-empty}
 use Rattle.posing.proofs.starting.start.Goals as goal

@@ -1,4 +1,4 @@
-use Rattle.std.proofs.Common.{◌≡◌, ◌≤◌, length, drop}
+use Rattle.std.proofs.Common.{◌≤◌, length, drop}
 use Rattle.cells.specs.Stores.{cells_of}
 use Rattle.posing.specs.Stacks.{Posing}
 use Rattle.posing.specs.Starts.{from_top, no_entry, no_goal}

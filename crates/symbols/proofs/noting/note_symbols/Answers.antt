@@ -1,4 +1,4 @@
-use Rattle.std.proofs.Common.{◌≡◌, ℕ, length, sym, refl, ap, ◌∙◌, subst, arith, rules}
+use Rattle.std.proofs.Common.{◌≡◌, ℕ, length, sym, refl, ap, ◌∙◌, subst, arith}
 use Rattle.lines.specs.Said.{words_left}
 use Rattle.lines.specs.Tokens.{word}
 use Rattle.symbols.specs.Numbers.{note_words}

@@ -1,4 +1,4 @@
-use Rattle.std.proofs.Common.{◌≡◌, [], ◌∷◌, length, sym, refl, ap, ◌∙◌, arith, length-append, rules}
+use Rattle.std.proofs.Common.{[], ◌∷◌, length, ap, ◌∙◌, arith, length-append}
 use Rattle.symbols.specs.Tables.{signature}
 use Rattle.symbols.proofs.NumberLaws.{known_some, known-none}
 use Rattle.symbols.proofs.variables.variable_number.Goals as goal

@@ -1,4 +1,4 @@
-use Rattle.std.proofs.Common.{◌≡◌, ◌+◌, ◌^◌, ◌<◌, sym, ap, ◌∙◌, arith, rules}
+use Rattle.std.proofs.Common.{◌+◌, ◌^◌, ◌<◌, sym, ap, ◌∙◌, arith, rules}
 use Rattle.text.proofs.Digits.{length-one, length-step, length-twenty}
 use Rattle.text.proofs.decimals.+decimal_len.Goals as goal
 

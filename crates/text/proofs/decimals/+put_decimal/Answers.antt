@@ -1,7 +1,7 @@
-use Rattle.std.proofs.Common.{◌≡◌, ℕ, ◌+◌, ◌/◌, ◌%◌, ◌^◌, ◌<◌, ◌≤◌, List, [], ◌∷◌, length, set, decimal, sym, ap, ◌∙◌, ap₂, arith, rules}
+use Rattle.std.proofs.Common.{◌≡◌, ◌+◌, ◌/◌, ◌%◌, ◌^◌, ◌<◌, ◌≤◌, [], ◌∷◌, length, set, decimal, sym, ap, ◌∙◌, ap₂, arith, rules}
 use Rattle.std.proofs.lemmas.Fmt.{decimal_digit, decimal_step}
 use Rattle.text.specs.Buffers.{wrote}
-use Rattle.text.proofs.Digits.{length-one, length-step, length-twenty}
+use Rattle.text.proofs.Digits.{length-one, length-step}
 use Rattle.text.proofs.Wrote.{wrote_one, wrote-more, length-wrote}
 use Rattle.text.proofs.decimals.+put_decimal.Goals as goal
 

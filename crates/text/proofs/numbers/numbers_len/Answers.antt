@@ -1,4 +1,4 @@
-use Rattle.std.proofs.Common.{◌≡◌, ◌+◌, ◌<◌, map, length, arith, rules}
+use Rattle.std.proofs.Common.{◌≡◌, ◌<◌, length, arith, rules}
 use Rattle.text.proofs.NumberLaws.{left, length_none, length_more, fits_all, fits_not}
 use Rattle.text.proofs.numbers.numbers_len.Goals as goal
 

@@ -1,4 +1,4 @@
-use Rattle.std.proofs.Common.{◌≡◌, suc, ◌+◌, ◌<◌, ◌≤◌, map, length, decimal, ◌∙◌, arith, rules}
+use Rattle.std.proofs.Common.{suc, ◌+◌, ◌<◌, ◌≤◌, map, length, decimal, ◌∙◌, arith, rules}
 use Rattle.horn.specs.Notation.{tails, numbered}
 use Rattle.text.proofs.NumberLaws.{fits_all, fitting-some, put-letter}
 use Rattle.text.proofs.numbers.write_numbers.Goals as goal

@@ -1,4 +1,4 @@
-use Rattle.std.proofs.Common.{◌≡◌, ◌≤◌, length, take, sym, ap, subst, arith, length-take-le, rules}
+use Rattle.std.proofs.Common.{length, sym, ap, subst, arith, length-take-le}
 use Rattle.heap.specs.Heaps.{Sound, Closed}
 use Rattle.cells.proofs.Seals.{unsealed}
 use Rattle.cells.proofs.store.Store.cells.Goals as goal

@@ -1,6 +1,5 @@
-use Rattle.std.proofs.Common.{◌≡◌, ◌-◌, ◌<◌, ◌≤◌, length, take, refl, ◌∙◌, arith, rules}
+use Rattle.std.proofs.Common.{◌-◌, ◌<◌, ◌≤◌, length, refl, ◌∙◌, arith, rules}
 use Rattle.cells.specs.Stores.{cells_of}
-use Rattle.cells.specs.Growth.{Spare}
 use Rattle.cells.proofs.Seals.{unsealed}
 use Rattle.cells.proofs.StateLaws.{fine-used}
 use Rattle.cells.proofs.GrowthLaws.{grew_none, grew-structured}

@@ -1,4 +1,4 @@
-use Rattle.std.proofs.Common.{◌≡◌, ◌-◌, take, ap, arith, rules}
+use Rattle.std.proofs.Common.{arith, rules}
 use Rattle.lines.proofs.GatherLaws.{enough-read}
 use Rattle.lines.proofs.gather.Gathered.line.Goals as goal
 

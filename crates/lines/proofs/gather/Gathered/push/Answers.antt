@@ -1,4 +1,4 @@
-use Rattle.std.proofs.Common.{arith, rules}
+use Rattle.std.proofs.Common.{rules}
 use Rattle.lines.proofs.GatherLaws.{kept_more, kept_full}
 use Rattle.lines.proofs.gather.Gathered.push.Goals as goal
 

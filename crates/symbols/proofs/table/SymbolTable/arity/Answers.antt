@@ -1,4 +1,4 @@
-use Rattle.std.proofs.Common.{◌≡◌, sym, refl, ap, arith, rules}
+use Rattle.std.proofs.Common.{sym, ap, arith, rules}
 use Rattle.symbols.specs.Tables.{symbol_in}
 use Rattle.symbols.proofs.SymbolLaws.{up_to-at, up_to-past}
 use Rattle.symbols.proofs.table.SymbolTable.arity.Goals as goal

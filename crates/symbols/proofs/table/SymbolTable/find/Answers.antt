@@ -1,4 +1,4 @@
-use Rattle.std.proofs.Common.{◌≡◌, sym, refl, ap, ◌∙◌, arith, rules}
+use Rattle.std.proofs.Common.{sym, ap, ◌∙◌, arith}
 use Rattle.symbols.specs.Numbers.{is_symbol}
 use Rattle.symbols.specs.Tables.{symbol_in, signature}
 use Rattle.symbols.proofs.SymbolLaws.{signature-long, up_to-at}

@@ -1,4 +1,4 @@
-use Rattle.std.proofs.Common.{◌≡◌, ◌+◌, ◌-◌, ◌*◌, length, get_or, take, drop, sym, ap, ◌∙◌, arith, rules}
+use Rattle.std.proofs.Common.{◌≡◌, ◌+◌, ◌-◌, ◌*◌, get_or, take, drop, sym, ap, ◌∙◌, arith}
 use Rattle.symbols.specs.Tables.{symbol_in}
 use Rattle.symbols.proofs.SymbolLaws.{up_to-at, up_to-past}
 use Rattle.symbols.proofs.table.SymbolTable.name.Goals as goal

@@ -1,4 +1,4 @@
-use Rattle.std.proofs.Common.{◌≡◌, ℕ, [], ◌∷◌, length, sym, refl, ap, ◌∙◌, arith, length-append, rules}
+use Rattle.std.proofs.Common.{◌≡◌, ℕ, [], ◌∷◌, length, refl, ap, ◌∙◌, arith, length-append}
 use Rattle.symbols.specs.Tables.{signature}
 use Rattle.symbols.proofs.SymbolLaws.{signature-long}
 use Rattle.symbols.proofs.NameLaws.{note-found, note-new}

@@ -1,4 +1,4 @@
-use Rattle.std.proofs.Common.{sym, arith, rules}
+use Rattle.std.proofs.Common.{sym, arith}
 use Rattle.symbols.specs.Tables.{symbol_in}
 use Rattle.symbols.proofs.SymbolLaws.{signature-long}
 use Rattle.symbols.proofs.NameLaws.{up_to-take}
