@@ -1,8 +1,7 @@
 -- Rule V6 of scripts, and the range of their arguments.
-use Rattle.std.proofs.Common.{◌≡◌, ℕ, zero, suc, ◌+◌, ◌-◌, ◌<◌, ◌≤◌, Bool, true, false, cond, not, ◌&&◌, ◌||◌, eqb, ltb, leb, ◌⊎◌, List, [], ◌∷◌, ◌++◌, length, get_or, Some, None, Option, sym, refl, ap, ◌∙◌, subst, ap₂, inl, inr, append_assoc, append-nil, arith}
-use Rattle.std.proofs.lemmas.Bool.{eq-eqb, ne_eqb, le-leb, and_from, and_parts, cases_eq, cases_lt, cond-true, cond-false}
+use Rattle.std.proofs.Common.{◌≡◌, ℕ, zero, suc, ◌+◌, ◌<◌, ◌≤◌, Bool, true, false, cond, eqb, leb, List, [], ◌∷◌, ◌++◌, length, get_or, sym, refl, ap, ◌∙◌, subst, inl, inr, append_assoc, append-nil, arith}
+use Rattle.std.proofs.lemmas.Bool.{eq-eqb, ne_eqb, le-leb, and_from, and_parts, cases_eq, cond-true, cond-false}
 use Rattle.code.specs.declared.instructions.Operand.{Operand}
-use Rattle.code.specs.declared.instructions.Operand.TheVariants.{Fresh, Known, Constant}
 use Rattle.code.specs.declared.instructions.Instruction.{Instruction}
 use Rattle.code.specs.declared.instructions.Instruction.TheVariants.{Allocate, Get, GetStructure, Unify, Put, PutStructure, Set, Call, Proceed}
 use Rattle.symbols.specs.Symbols.{Signature, arity_at}
@@ -10,7 +9,7 @@ use Rattle.compiler.specs.Rows.{row}
 use Rattle.compiler.specs.Scripts.{Phase, start, top, inside, between, goal, over, Script, stay, next, allocates, gets, takes, turns, begins, builds, calls, ends}
 use Rattle.compiler.specs.declared.rows.Role.{Role}
 use Rattle.compiler.specs.declared.rows.Role.TheVariants.{Gets, Unifies, Puts, Sets}
-use Rattle.code.specs.Instructions.{got, put, called}
+use Rattle.code.specs.Instructions.{got, put}
 use Rattle.code.specs.Tests.{every, total, below}
 use Rattle.code.specs.Rules.{filled, v6}
 use Rattle.code.specs.Rules.{calls as calls_filled}

@@ -1,11 +1,9 @@
 -- A goal for each call.
-use Rattle.std.proofs.Common.{◌≡◌, ℕ, zero, suc, ◌+◌, ◌-◌, ◌<◌, ◌≤◌, Bool, true, false, cond, ◌&&◌, eqb, ltb, leb, List, [], ◌∷◌, ◌++◌, map, length, get_or, replicate, sym, refl, ap, ◌∙◌, subst, ap₂, arith}
-use lib.ListN.{length-replicate}
-use Rattle.code.specs.declared.instructions.Operand.{Operand}
+use Rattle.std.proofs.Common.{◌≡◌, suc, List, [], ◌∷◌, refl, ap}
 use Rattle.code.specs.declared.instructions.Operand.TheVariants.{Fresh, Known, Constant}
 use Rattle.code.specs.declared.instructions.Instruction.{Instruction}
 use Rattle.code.specs.declared.instructions.Instruction.TheVariants.{Allocate, Get, GetStructure, Unify, Put, PutStructure, Set, Call, Proceed}
-use Rattle.horn.specs.Terms.{Terms, count}
+use Rattle.horn.specs.Terms.{count}
 use Rattle.code.specs.Meaning.{Symbols, Terming, given, update, goals}
 use Rattle.horn.specs.Terms.{var}
 use Rattle.code.specs.Instructions.{within}

@@ -1,20 +1,20 @@
 -- The items of a clause's heads and goals, and what code for them denotes.
-use Rattle.std.proofs.Common.{◌≡◌, ℕ, zero, suc, ◌+◌, ◌<◌, ◌≤◌, ◌⊎◌, List, [], ◌∷◌, ◌++◌, length, get_or, sym, refl, ap, ◌∙◌, subst, ap₂, inl, inr, append_assoc, append-nil, arith}
+use Rattle.std.proofs.Common.{◌≡◌, ℕ, zero, suc, ◌+◌, ◌<◌, ◌≤◌, List, [], ◌∷◌, ◌++◌, length, get_or, sym, refl, ap, ◌∙◌, ap₂, arith}
 use native.Mathlib.Decide.{dec_lt}
-use Rattle.horn.specs.Terms.{Name, Term, Terms, var, node, nil, cons, count, front, back, join, eval, evals}
-use Rattle.horn.specs.Clauses.{Variable, Clause, Callables, Written, blanks, blankss, apart, aparts}
-use Rattle.horn.specs.Weights.{load, weighs}
-use Rattle.horn.specs.Notation.{Word, word_for, words, wordss}
+use Rattle.horn.specs.Terms.{Name, Term, Terms, var, node, nil, cons, count, front, back, join, evals}
+use Rattle.horn.specs.Clauses.{Variable, Callables, Written, blanks, apart, aparts}
+use Rattle.horn.specs.Weights.{load}
+use Rattle.horn.specs.Notation.{Word, word_for, wordss}
 use Rattle.horn.proofs.JoinLaws.{front-join, back-join}
 use Rattle.code.specs.Meaning.{Terming, Denotes}
 use Rattle.code.specs.declared.instructions.Instruction.{Instruction}
-use Rattle.symbols.specs.Symbols.{Signature, name_at, arity_at, symbols_of}
+use Rattle.symbols.specs.Symbols.{Signature, arity_at, symbols_of}
 use Rattle.symbols.specs.Numbers.{number_in, blanks_in, variables_after}
 use Rattle.compiler.specs.Flatten.{items, predicates}
 use Rattle.compiler.specs.Reading.{reads, Whole, heads, arities, Carries, hefts, weight}
 use Rattle.compiler.specs.Lines.{Numbered, Used, Known, variables}
 use Rattle.symbols.proofs.NumberLaws.{number_is, at, Apart, apart_none, Begins, begins-all, begins-then, place, placed}
-use Rattle.compiler.proofs.FlattenLaws.{note_ts, item_ts, num_ts, count-num, KnowsTs, items-terms, after-terms, predicates-terms, reads-terms, whole-terms, Sounds, sounds-known, sounds-append, sounds-terms, Grown, grown-terms, same-terms, numbered-append, numbered-terms, Has, has_left, has_right, used-by, has-terms, variables-append, varied-terms, hefts-append, hefts-terms, count-join}
+use Rattle.compiler.proofs.FlattenLaws.{note_ts, item_ts, num_ts, count-num, KnowsTs, items-terms, after-terms, predicates-terms, reads-terms, whole-terms, Sounds, sounds-known, sounds-append, sounds-terms, grown-terms, same-terms, numbered-append, numbered-terms, Has, has_left, has_right, used-by, has-terms, variables-append, varied-terms, hefts-append, hefts-terms, count-join}
 use Rattle.compiler.specs.declared.items.Item.{Item}
 
 abbrev pub note_g : List Variable → Written → List Variable

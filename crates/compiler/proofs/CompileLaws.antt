@@ -1,11 +1,11 @@
 -- A line's clause, as it has been flattened.
-use Rattle.std.proofs.Common.{◌≡◌, ℕ, zero, suc, ◌+◌, ◌-◌, ◌<◌, ◌≤◌, true, ◌&&◌, ◌||◌, eqb, leb, List, [], ◌∷◌, ◌++◌, map, length, get_or, take, drop, Ok, sym, refl, ap, ◌∙◌, subst, ap₂, arith, length-take-le, drop_at}
+use Rattle.std.proofs.Common.{◌≡◌, ℕ, zero, suc, ◌+◌, ◌-◌, ◌<◌, ◌≤◌, true, ◌&&◌, ◌||◌, eqb, leb, List, [], ◌∷◌, ◌++◌, length, get_or, take, drop, Ok, sym, refl, ap, ◌∙◌, subst, arith, length-take-le, drop_at}
 use Rattle.std.proofs.lemmas.List.{drop-take}
 use Rattle.std.proofs.lemmas.Bool.{and_parts, leb-true}
-use Rattle.horn.specs.Terms.{Name, Term, Terms, var, node, nil, cons, count}
+use Rattle.horn.specs.Terms.{Name, Term, var, node, nil, cons, count}
 use Rattle.horn.specs.Clauses.{Clause, Callables, Written, blanks, apart, aparts}
 use Rattle.horn.specs.Weights.{load}
-use Rattle.horn.specs.Notation.{Word, name, structure, variable, word_for, words, wordss}
+use Rattle.horn.specs.Notation.{Word, word_for, words, wordss}
 use Rattle.lines.specs.Words.{upper, every, plain, is_variable}
 use Rattle.lines.specs.Grammar.{Good, Goods}
 use Rattle.lines.specs.Clauses.{clause_from}
@@ -14,11 +14,11 @@ use Rattle.code.specs.declared.instructions.Instruction.{Instruction}
 use Rattle.symbols.specs.Symbols.{Signature, arity_at, symbols_of}
 use Rattle.symbols.specs.Numbers.{number_in, Covers, Short, Shorts, variables_after}
 use Rattle.compiler.specs.Flatten.{items, predicates}
-use Rattle.compiler.specs.Reading.{reads, Whole, arities, Carries, hefts, weight}
-use Rattle.compiler.specs.Lines.{Numbered, Used, Known, variables, structures}
+use Rattle.compiler.specs.Reading.{reads, Whole, arities, Carries, weight}
+use Rattle.compiler.specs.Lines.{Numbered, Used, Known, variables}
 use Rattle.compiler.proofs.StepLaws.{hefts-is}
-use Rattle.compiler.proofs.FlattenLaws.{note_ts, item_ts, covers-terms}
-use Rattle.compiler.proofs.ClauseLaws.{note_g, item_g, pred_g, goals-items, goals-after, goals-predicates, count-goals, is_whole, is_known, is-numbered, is-used, is-varied, is-full, is-called, is-weight, denoting}
+use Rattle.compiler.proofs.FlattenLaws.{covers-terms}
+use Rattle.compiler.proofs.ClauseLaws.{pred_g, goals-items, goals-after, goals-predicates, count-goals, is_whole, is_known, is-numbered, is-used, is-varied, is-full, is-called, is-weight, denoting}
 use Rattle.compiler.specs.declared.items.Item.{Item}
 
 -- variables are short

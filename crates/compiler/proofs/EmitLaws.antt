@@ -1,23 +1,21 @@
 -- Words one after another.
-use Rattle.std.proofs.Common.{◌≡◌, ℕ, zero, suc, ◌+◌, ◌<◌, ◌≤◌, Bool, true, false, cond, eqb, List, [], ◌∷◌, ◌++◌, map, length, sym, refl, ap, ◌∙◌, subst, ap₂, subst₂, append_assoc, append-nil, add-one, arith, length-append, eq-eqb, ne_eqb}
+use Rattle.std.proofs.Common.{◌≡◌, ℕ, suc, ◌+◌, ◌<◌, Bool, cond, List, [], ◌∷◌, ◌++◌, map, length, sym, refl, ap, ◌∙◌, subst, ap₂, append_assoc, append-nil, arith, length-append, eq-eqb, ne_eqb}
 use mathlib.Core.List.{map-append}
 use Rattle.horn.specs.Terms.{Term, Terms, var, node, nil, cons, join}
 use Rattle.symbols.specs.Symbols.{Signature, name_at, arity_at, symbols_of}
-use Rattle.compiler.specs.Terms.{along, hop}
+use Rattle.compiler.specs.Terms.{hop}
 use Rattle.code.specs.Meaning.{Terming, span}
-use Rattle.code.specs.Meaning.{given, part, parts, Says, goals, update}
-use Rattle.compiler.specs.Places.{Plan, value, values, BuiltAt, Built, width, gain}
+use Rattle.code.specs.Meaning.{given, parts, Says, goals, update}
+use Rattle.compiler.specs.Places.{Plan, value, values}
 use Rattle.compiler.specs.Order.{Orderly}
 use Rattle.compiler.specs.Scripts.{Phase, Script, stay, next}
 use Rattle.compiler.specs.Rows.{row}
 use Rattle.compiler.specs.Lawful.{Fairs, Lawfuls}
 use Rattle.code.specs.Words.{encode, decode}
-use Rattle.compiler.specs.Emits.{Emits, Added, Names, Named, none, more, Rowed}
-use Rattle.compiler.specs.declared.items.Item.{Item}
-use Rattle.compiler.specs.declared.items.Item.TheVariants.{Atom, Structure, Variable}
+use Rattle.compiler.specs.Emits.{Emits, Added, Names, Named, none, more}
 use Rattle.code.specs.declared.instructions.Operand.{Operand}
 use Rattle.code.specs.declared.instructions.Instruction.{Instruction}
-use Rattle.code.specs.declared.instructions.Instruction.TheVariants.{Allocate, Get, GetStructure, Unify, Put, PutStructure, Set, Call, Proceed}
+use Rattle.code.specs.declared.instructions.Instruction.TheVariants.{Allocate, GetStructure, PutStructure, Call, Proceed}
 use Rattle.compiler.specs.declared.rows.Role.{Role}
 use Rattle.compiler.specs.declared.rows.Role.TheVariants.{Gets, Unifies, Puts, Sets}
 

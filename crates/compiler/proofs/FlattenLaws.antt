@@ -1,18 +1,18 @@
 -- The items of terms.
-use Rattle.std.proofs.Common.{◌≡◌, ℕ, zero, suc, ◌+◌, ◌<◌, ◌≤◌, Bool, true, false, cond, ◌⊎◌, List, [], ◌∷◌, ◌++◌, length, get_or, sym, refl, ap, ◌∙◌, subst, ap₂, inl, inr, append_assoc, append-nil, arith, length-append}
+use Rattle.std.proofs.Common.{◌≡◌, ℕ, zero, suc, ◌+◌, ◌<◌, ◌≤◌, ◌⊎◌, List, [], ◌∷◌, ◌++◌, length, get_or, sym, refl, ap, ◌∙◌, subst, ap₂, inl, inr, append_assoc, arith}
 use native.Mathlib.Decide.{dec_lt}
 use Rattle.horn.specs.Terms.{Name, Term, Terms, var, node, nil, cons, count, front, back, join, eval, evals}
-use Rattle.horn.specs.Clauses.{Variable, Callables, Written, is_blank, meant, blanks, blankss, apart, aparts}
-use Rattle.horn.specs.Weights.{own, weigh, weighs, under, load}
-use Rattle.horn.specs.Notation.{Word, name, structure, variable, arity, word_for, words, wordss}
+use Rattle.horn.specs.Clauses.{Variable, blanks, blankss, apart, aparts}
+use Rattle.horn.specs.Weights.{own, weigh, weighs}
+use Rattle.horn.specs.Notation.{Word, word_for, words, wordss}
 use Rattle.horn.proofs.JoinLaws.{front-join, back-join}
 use Rattle.code.specs.Meaning.{Terming}
-use Rattle.symbols.specs.Symbols.{Signature, name_at, arity_at}
-use Rattle.symbols.specs.Numbers.{number_in, Knows, Covers, blanks_in, number_of, noted, noted_by, variables_after}
-use Rattle.compiler.specs.Flatten.{item_for, predicate_for, items, predicates}
-use Rattle.compiler.specs.Reading.{reads, Whole, heads, arities, heft, hefts}
+use Rattle.symbols.specs.Symbols.{Signature, arity_at}
+use Rattle.symbols.specs.Numbers.{number_in, Knows, Covers, blanks_in, number_of, noted, variables_after}
+use Rattle.compiler.specs.Flatten.{items, predicates}
+use Rattle.compiler.specs.Reading.{reads, Whole, heft, hefts}
 use Rattle.compiler.specs.Lines.{Numbered, Sound, Known, Used, variables}
-use Rattle.symbols.proofs.NumberLaws.{number_is, at, Apart, Begins, begins-all, begins-then, Noted, noting}
+use Rattle.symbols.proofs.NumberLaws.{number_is, at, Apart, Begins, begins-all, begins-then, noting}
 use Rattle.compiler.specs.declared.items.Item.{Item}
 use Rattle.compiler.specs.declared.items.Item.TheVariants.{Atom, Structure, Variable as Var}
 

@@ -1,12 +1,10 @@
 -- Words and the slots that they fill.
-use Rattle.std.proofs.Common.{◌≡◌, ℕ, zero, suc, ◌+◌, ◌<◌, ◌≤◌, Bool, true, false, List, [], ◌∷◌, ◌++◌, map, length, set, sym, refl, ap, ◌∙◌, subst, ap₂, subst₂, append_assoc, append-nil, add-one, arith}
-use mathlib.Core.List.{map-append}
+use Rattle.std.proofs.Common.{◌≡◌, ℕ, suc, ◌+◌, ◌<◌, ◌≤◌, Bool, true, List, [], ◌∷◌, ◌++◌, map, length, set, sym, refl, ap, ◌∙◌, subst, ap₂, subst₂, append_assoc, add-one, arith}
 use Rattle.horn.specs.Terms.{nil}
-use Rattle.symbols.specs.Symbols.{Signature, name_at, arity_at, symbols_of}
+use Rattle.symbols.specs.Symbols.{Signature, arity_at}
 use Rattle.compiler.specs.Terms.{hop}
-use Rattle.code.specs.Meaning.{Terming}
-use Rattle.compiler.specs.Places.{Plan, values, BuiltAt, Built, width, wide, gain}
-use Rattle.compiler.specs.Filling.{Empty, Filled, Fits, fill, Fills, still, then, Marked, MarkedAt, Off, OffAt, Ahead}
+use Rattle.compiler.specs.Places.{Plan, values, Built, width, wide, gain}
+use Rattle.compiler.specs.Filling.{Empty, Filled, Fills, still, then, Marked, MarkedAt, Off, OffAt}
 use Rattle.compiler.specs.Order.{Orderly}
 use Rattle.compiler.specs.Scripts.{Phase, inside, goal, takes, builds}
 use Rattle.compiler.specs.Rows.{row}

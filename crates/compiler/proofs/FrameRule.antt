@@ -1,11 +1,11 @@
 -- Rule V2 of scripts, but for the counts.
-use Rattle.std.proofs.Common.{◌≡◌, ℕ, zero, suc, ◌+◌, ◌-◌, ◌<◌, ◌≤◌, Bool, true, false, cond, not, ◌&&◌, ◌||◌, eqb, ltb, leb, ◌⊎◌, List, [], ◌∷◌, ◌++◌, length, get_or, Some, None, Option, sym, refl, ap, ◌∙◌, subst, ap₂, inl, inr, append_assoc, append-nil, arith}
-use Rattle.std.proofs.lemmas.Bool.{eq-eqb, ne_eqb, le-leb, and_from, and_parts, cases_eq, cases_lt, cond-true, cond-false}
+use Rattle.std.proofs.Common.{◌≡◌, ℕ, suc, true, eqb, List, [], ◌∷◌, ◌++◌, sym, refl, ap, ◌∙◌, subst, append_assoc, append-nil, arith}
+use Rattle.std.proofs.lemmas.Bool.{and_from}
 use Rattle.code.specs.declared.instructions.Operand.{Operand}
 use Rattle.code.specs.declared.instructions.Operand.TheVariants.{Fresh, Known, Constant}
 use Rattle.code.specs.declared.instructions.Instruction.{Instruction}
-use Rattle.code.specs.declared.instructions.Instruction.TheVariants.{Allocate, Get, GetStructure, Unify, Put, PutStructure, Set, Call, Proceed}
-use Rattle.symbols.specs.Symbols.{Signature, arity_at}
+use Rattle.code.specs.declared.instructions.Instruction.TheVariants.{Get, GetStructure, Unify, Put, PutStructure, Set, Call, Proceed}
+use Rattle.symbols.specs.Symbols.{Signature}
 use Rattle.compiler.specs.Rows.{row}
 use Rattle.compiler.specs.Scripts.{Phase, start, top, inside, between, goal, over, Script, stay, next, allocates, gets, takes, turns, begins, builds, calls, ends}
 use Rattle.compiler.specs.declared.rows.Role.{Role}

@@ -1,10 +1,10 @@
 -- What the slots give each place is the instance of the term there.
-use Rattle.std.proofs.Common.{◌≡◌, ℕ, zero, suc, ◌+◌, ◌<◌, ◌≤◌, sym, refl, ap, ◌∙◌, subst, ap₂, arith}
-use Rattle.horn.specs.Terms.{Term, Terms, var, node, nil, cons, eval, evals}
-use Rattle.symbols.specs.Symbols.{Signature, name_at, arity_at, symbols_of}
+use Rattle.std.proofs.Common.{◌≡◌, ℕ, zero, suc, ◌+◌, ◌<◌, ◌≤◌, sym, refl, ap, ◌∙◌, ap₂, arith}
+use Rattle.horn.specs.Terms.{Terms, node, cons, eval, evals}
+use Rattle.symbols.specs.Symbols.{Signature, name_at}
 use Rattle.compiler.specs.Terms.{along}
 use Rattle.code.specs.Meaning.{Terming}
-use Rattle.compiler.specs.Places.{Plan, width, shaped, worth, Built, Run, Ends, value, values, wide, BuiltAt}
+use Rattle.compiler.specs.Places.{Plan, shaped, worth, Built, Run, Ends, value, values, wide, BuiltAt}
 use Rattle.compiler.specs.declared.items.Item.{Item}
 use Rattle.compiler.specs.declared.items.Item.TheVariants.{Atom, Structure, Variable}
 

@@ -1,18 +1,18 @@
 -- The terms that a line spells, by their places; and code that says what its structures are carries its clause.
-use Rattle.std.proofs.Common.{◌≡◌, ℕ, zero, suc, ◌+◌, ◌-◌, ◌<◌, ◌≤◌, Bool, true, false, cond, eqb, ltb, List, [], ◌∷◌, ◌++◌, length, get_or, take, drop, sym, refl, ap, ◌∙◌, subst, ap₂, append-nil, add-one, arith, le-ltb, lt-ltb, eq-eqb, ne_eqb}
+use Rattle.std.proofs.Common.{◌≡◌, ℕ, zero, suc, ◌+◌, ◌-◌, ◌<◌, ◌≤◌, cond, eqb, ltb, List, [], ◌∷◌, length, get_or, take, drop, sym, refl, ap, ◌∙◌, subst, ap₂, append-nil, add-one, arith, le-ltb, lt-ltb, eq-eqb, ne_eqb}
 use native.Mathlib.Decide.{dec_lt}
 use Rattle.std.proofs.lemmas.List.{drop_more, drop_all}
-use Rattle.horn.specs.Terms.{Term, Terms, var, node, nil, cons, eval, evals, count, front, back, join}
+use Rattle.horn.specs.Terms.{Terms, var, node, nil, cons, eval, evals, count, front, back, join}
 use Rattle.symbols.specs.Symbols.{Signature, name_at, arity_at, symbols_of}
 use Rattle.compiler.specs.Terms.{first, along, hop}
 use Rattle.code.specs.Meaning.{Terming, span}
 use Rattle.code.specs.Meaning.{Says, goals}
-use Rattle.compiler.specs.Reading.{reads, Whole, heads, Carries, arities}
-use Rattle.compiler.specs.Places.{Plan, width, shaped, worth, Run, Ends, value, values, wide, BuiltAt}
+use Rattle.compiler.specs.Reading.{reads, heads, Carries, arities}
+use Rattle.compiler.specs.Places.{width, shaped, worth, Run, Ends, value, values}
 use Rattle.compiler.specs.Emits.{Emits}
 use Rattle.compiler.specs.Steps.{Told}
 use Rattle.compiler.specs.Lines.{plan, structures, Numbered, Slotted, calls}
-use Rattle.compiler.proofs.PlaceLaws.{Spelled, settled, building, run-values, run_up, run-within}
+use Rattle.compiler.proofs.PlaceLaws.{Spelled, settled, building, run-values, run-within}
 use Rattle.code.specs.declared.instructions.Instruction.{Instruction}
 use Rattle.compiler.specs.declared.items.Item.{Item}
 use Rattle.compiler.specs.declared.items.Item.TheVariants.{Atom, Structure, Variable}

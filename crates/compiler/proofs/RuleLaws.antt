@@ -1,29 +1,27 @@
 -- The code of a clause keeps the rules.
-use Rattle.std.proofs.Common.{◌≡◌, ℕ, zero, suc, ◌+◌, ◌-◌, ◌<◌, ◌≤◌, Bool, true, false, cond, ◌&&◌, eqb, ltb, leb, ◌⊎◌, List, [], ◌∷◌, ◌++◌, map, length, get_or, take, replicate, sym, refl, ap, ◌∙◌, subst, ap₂, inl, inr, arith}
+use Rattle.std.proofs.Common.{◌≡◌, ℕ, zero, suc, ◌+◌, ◌<◌, ◌≤◌, Bool, true, false, cond, ◌&&◌, eqb, ltb, leb, List, [], ◌∷◌, map, length, get_or, take, replicate, sym, refl, ap, ◌∙◌, subst, ap₂, arith}
 use lib.ListN.{length-replicate}
-use Rattle.code.specs.declared.instructions.Operand.{Operand}
 use Rattle.code.specs.declared.instructions.Operand.TheVariants.{Fresh, Known, Constant}
 use Rattle.code.specs.declared.instructions.Instruction.{Instruction}
 use Rattle.code.specs.declared.instructions.Instruction.TheVariants.{Allocate, Get, GetStructure, Unify, Put, PutStructure, Set, Call, Proceed}
 use Rattle.std.proofs.lemmas.Bool.{eq-eqb, le-leb, lt-ltb, and_from}
 use Rattle.code.specs.Table.{found}
-use Rattle.code.specs.Words.{opcode, first, second, packed, encode, decode, first_of, second_of}
+use Rattle.code.specs.Words.{first, second, encode, decode, first_of, second_of}
 use Rattle.code.specs.Instructions.{number, within}
 use Rattle.code.specs.Tests.{every, total}
-use Rattle.code.specs.Rules.{in_range, allowed, legal, opened, ranged, v1, v2, v3, v4, v5, v6, v7, closes, key_of}
-use Rattle.code.specs.Passes.{slot_pass}
+use Rattle.code.specs.Rules.{allowed, legal, opened, ranged, v1, v2, v3, v4, v5, v6, key_of}
 use Rattle.code.specs.Passes.{inside as slot_inside}
 use Rattle.code.specs.Instructions.{sets}
 use Rattle.code.specs.WellFormed.{Kept}
 use Rattle.code.proofs.WordLaws.{opcode-packed, first-packed, second-packed}
 use Rattle.code.proofs.RangeLaws.{all-inside}
 use Rattle.code.proofs.SlotLaws.{slots-are}
-use Rattle.symbols.specs.Symbols.{Signature, Symbol, arity_at, arities_of}
+use Rattle.symbols.specs.Symbols.{Signature, arity_at, arities_of}
 use Rattle.compiler.specs.Lawful.{Lawful, Lawfuls}
 use Rattle.compiler.specs.Reading.{weight, Carries}
 use Rattle.compiler.specs.Output.{Onto}
 use Rattle.compiler.specs.Written.{Wrote}
-use Rattle.compiler.specs.Scripts.{start, over, Script}
+use Rattle.compiler.specs.Scripts.{start}
 use Rattle.compiler.specs.declared.items.Item.{Item}
 use Rattle.compiler.proofs.SlotRule.{Inside, Insides, slots-inside, slots_kept}
 use Rattle.compiler.proofs.ArgumentRule.{Argued, Argueds, argued, full}
@@ -78,7 +76,7 @@ module _ (n : ℕ) (sig : Signature) where
   in-range (Call p) i a l = known_in p l
   in-range Proceed i a l = refl
 
-  module _ (few : n ≤ 128) (small : length sig ≤ 384) where
+  module _ (few : n ≤ 128) (small : length sig ≤ 256) where
     narrow-first : (w : Instruction) → Inside n w → Argued w → Lawful sig w → first_of w < 256
     narrow-first (Allocate m) i a l = omega arith
     narrow-first (Get (Fresh y) b) i a l = omega arith
@@ -149,7 +147,7 @@ module _ (n : ℕ) (sig : Signature) where
     all-legal (w ∷ ws) i a l = and_from _ _ (legal-word w i.0 a.0 l.0) (all-legal ws i.1 a.1 l.1)
 
 -- the rules that the code of a clause keeps
-module _ {sig : Signature} {q vars n : ℕ} {ps : List ℕ} {ts : List Item} {out out' : List ℕ} (c : Coded sig q vars n ps ts out out' (replicate n false)) (arities : (f : ℕ) → arity_at sig f ≤ 8) (small : length sig ≤ 384)
+module _ {sig : Signature} {q vars n : ℕ} {ps : List ℕ} {ts : List Item} {out out' : List ℕ} (c : Coded sig q vars n ps ts out out' (replicate n false)) (arities : (f : ℕ) → arity_at sig f ≤ 8) (small : length sig ≤ 256)
     (few : n ≤ 128) (light : weight ps ts ≤ 128) (goals : length ps ≤ 8) where
   abbrev raw : List ℕ
   raw = map encode c.code
@@ -193,7 +191,7 @@ module _ {sig : Signature} {q vars n : ℕ} {ps : List ℕ} {ts : List Item} {ou
   }
 
 pub wrote : {sig : Signature} {q vars n : ℕ} {ps : List ℕ} {ts : List Item} (words words' : List ℕ) (at next : ℕ) → Coded sig q vars n ps ts (take at words) (take next words') (replicate n false)
-    → ((f : ℕ) → arity_at sig f ≤ 8) → length sig ≤ 384 → n ≤ 128 → weight ps ts ≤ 128 → length ps ≤ 8 → Onto words words' at next (weight ps ts + 2) → Wrote sig q ps ts words words' at next
+    → ((f : ℕ) → arity_at sig f ≤ 8) → length sig ≤ 256 → n ≤ 128 → weight ps ts ≤ 128 → length ps ≤ 8 → Onto words words' at next (weight ps ts + 2) → Wrote sig q ps ts words words' at next
 wrote {sig} {q} {ps = ps} {ts = ts} words words' at next c arities small few light goals onto = record {
   code = map encode c.code;
   longer = c.longer;

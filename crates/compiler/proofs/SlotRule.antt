@@ -1,19 +1,17 @@
 -- Rule V5 of code that fills its slots in order, and the range of its slots.
-use Rattle.std.proofs.Common.{◌≡◌, ℕ, zero, suc, ◌+◌, ◌-◌, ◌<◌, ◌≤◌, Bool, true, false, cond, not, ◌&&◌, ◌||◌, eqb, ltb, leb, ◌≢◌, ◌⊎◌, List, [], ◌∷◌, ◌++◌, map, length, get_or, set, replicate, Some, None, Option, sym, refl, ap, ◌∙◌, subst, ap₂, inl, inr, add-one, arith, length-set, get_or-set_other, get_or-set_same}
+use Rattle.std.proofs.Common.{◌≡◌, ℕ, zero, suc, ◌+◌, ◌-◌, ◌<◌, ◌≤◌, Bool, true, false, not, ◌&&◌, eqb, List, [], ◌∷◌, length, get_or, set, replicate, sym, refl, ap, ◌∙◌, subst, inl, inr, arith, length-set, get_or-set_other, get_or-set_same}
 use lib.ListN.{length-replicate}
 use Rattle.std.proofs.lemmas.List.{get_or_past, get_or_default, get_or-replicate}
-use Rattle.std.proofs.lemmas.Bool.{eq-eqb, ne_eqb, le-leb, lt-ltb, and_from, and_parts, cases_eq, cases_lt}
+use Rattle.std.proofs.lemmas.Bool.{eq-eqb, ne_eqb, le-leb, and_from, cases_eq, cases_lt}
 use Rattle.code.specs.declared.instructions.Operand.{Operand}
 use Rattle.code.specs.declared.instructions.Operand.TheVariants.{Fresh, Known, Constant}
 use Rattle.code.specs.declared.instructions.Instruction.{Instruction}
 use Rattle.code.specs.declared.instructions.Instruction.TheVariants.{Allocate, Get, GetStructure, Unify, Put, PutStructure, Set, Call, Proceed}
 use Rattle.symbols.specs.Symbols.{Signature, arity_at}
 use Rattle.compiler.specs.Filling.{Empty, Filled, Fits, fill}
-use Rattle.compiler.specs.Order.{uses, gives, waits, due, Setting, Orderly}
-use Rattle.compiler.specs.Lawful.{Formed, Lawful, Lawfuls}
-use Rattle.code.specs.Instructions.{sets, reads, fresh, known}
-use Rattle.code.specs.Tests.{below}
-use Rattle.code.specs.Rules.{builds}
+use Rattle.compiler.specs.Order.{Orderly}
+use Rattle.compiler.specs.Lawful.{Lawfuls}
+use Rattle.code.specs.Instructions.{fresh, known}
 use Rattle.code.specs.Passes.{held, can_read, can_set, marked, slot_pass}
 use Rattle.code.proofs.ArgumentLaws.{below_all}
 

@@ -3,7 +3,7 @@ use Rattle.std.proofs.Common.{◌≡◌, ℕ, zero, suc, ◌+◌, ◌-◌, ◌<�
 use mathlib.Core.List.{map-append, append_cancel_left}
 use native.Mathlib.Decide.{ℕ_discrete, dec_lt}
 use Rattle.std.proofs.lemmas.List.{take_more, drop_more, take_all, drop_all, get_or-replicate}
-use Rattle.horn.specs.Terms.{Term, Terms, var, node, nil, cons, count, join}
+use Rattle.horn.specs.Terms.{var, node, nil, cons, count, join}
 use Rattle.symbols.specs.Symbols.{Signature, name_at, arity_at, symbols_of}
 use Rattle.compiler.specs.Terms.{hop}
 use Rattle.code.specs.Meaning.{Terming, span}
@@ -18,15 +18,15 @@ use Rattle.compiler.proofs.FlowLaws.{row-flows}
 use Rattle.compiler.proofs.TableLaws.{run-hop, numbered-at, structure-run}
 use Rattle.compiler.proofs.ReadLaws.{stack, stack_at, run-there, skips, count-back, join-nil, carries}
 use Rattle.compiler.specs.Rows.{row}
-use Rattle.compiler.specs.Emits.{Emits, Added, Rowed, Named, Struck}
+use Rattle.compiler.specs.Emits.{Added, Rowed, Named, Struck}
 use Rattle.compiler.specs.Steps.{Headed, HeadUpTo, GoalDown, Goal, past, BodyUpTo, Told, Opened, Written}
 use Rattle.compiler.proofs.PlaceLaws.{run_up, run-within}
-use Rattle.compiler.proofs.EmitLaws.{added_none, added_then, added-as, emits-as, emits_then, emits-gets, emits-goal, emits-allocate, emits-proceed, added-goals, added-on, added-from, named-long, row-long, row_lawful, exact-append, lawful-append}
+use Rattle.compiler.proofs.EmitLaws.{added_none, added_then, added-as, emits-gets, emits-goal, emits-allocate, emits-proceed, added-goals, added-on, added-from, named-long, row-long, row_lawful, exact-append, lawful-append}
 use Rattle.compiler.specs.declared.items.Item.{Item}
 use Rattle.compiler.specs.declared.items.Item.TheVariants.{Atom, Structure, Variable}
 use Rattle.code.specs.declared.instructions.Instruction.{Instruction}
 use Rattle.compiler.specs.declared.flat.Flat.{Flat}
-use Rattle.compiler.specs.Tables.{table, laid, Ready}
+use Rattle.compiler.specs.Tables.{Ready}
 use Rattle.symbols.specs.Tables.{signature}
 use Rattle.compiler.specs.Lawful.{Lawfuls}
 use Rattle.code.specs.Tests.{total}

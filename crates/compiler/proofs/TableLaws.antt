@@ -1,11 +1,10 @@
 -- The tables of a line, as they are filled.
-use Rattle.std.proofs.Common.{◌≡◌, ℕ, zero, suc, ◌+◌, ◌-◌, ◌<◌, ◌≤◌, ◌≢◌, List, [], ◌∷◌, ◌++◌, length, get_or, take, drop, set, sym, refl, ap, ◌∙◌, subst, ap₂, add-one, arith, get_or-set_other, get_or-set_same}
+use Rattle.std.proofs.Common.{◌≡◌, ℕ, zero, suc, ◌+◌, ◌-◌, ◌<◌, ◌≤◌, ◌≢◌, List, [], ◌∷◌, length, get_or, set, sym, refl, ap, ◌∙◌, subst, ap₂, add-one, arith, get_or-set_other, get_or-set_same}
 use native.Mathlib.Decide.{ℕ_discrete}
 use Rattle.horn.specs.Terms.{count}
-use Rattle.symbols.specs.Symbols.{Signature, name_at, arity_at, symbols_of}
+use Rattle.symbols.specs.Symbols.{Signature, arity_at}
 use Rattle.compiler.specs.Terms.{hop}
-use Rattle.code.specs.Meaning.{Terming}
-use Rattle.compiler.specs.Reading.{reads, Whole}
+use Rattle.compiler.specs.Reading.{Whole}
 use Rattle.compiler.specs.Places.{Plan, width, Run, Ends}
 use Rattle.compiler.specs.Lines.{plan, Numbered}
 use Rattle.compiler.specs.Tables.{table}

@@ -1,5 +1,5 @@
 -- What words say in front of any others.
-use Rattle.std.specs.Prelude.{◌≡◌, ℕ, zero, suc, ◌<◌, Bool, List, [], ◌∷◌, ◌++◌, map, length, ◌≢◌}
+use Rattle.std.specs.Prelude.{◌≡◌, ℕ, suc, ◌<◌, Bool, List, [], ◌∷◌, ◌++◌, map, length, ◌≢◌}
 use Rattle.horn.specs.Terms.{Terms, var, nil, join}
 use Rattle.symbols.specs.Symbols.{Signature, symbols_of}
 use Rattle.compiler.specs.Terms.{hop}

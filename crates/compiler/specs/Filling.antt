@@ -1,5 +1,5 @@
 -- Slots as they are filled: each once, and used only afterwards.
-use Rattle.std.specs.Prelude.{◌≡◌, ℕ, zero, suc, ◌<◌, ◌≤◌, Bool, true, false, List, [], ◌∷◌, length, slice_index_or, slice_set}
+use Rattle.std.specs.Prelude.{◌≡◌, ℕ, ◌<◌, ◌≤◌, Bool, true, false, List, [], ◌∷◌, slice_index_or, slice_set}
 use Rattle.compiler.specs.Places.{Plan}
 use Rattle.compiler.specs.declared.items.Item.{Item}
 use Rattle.compiler.specs.declared.items.Item.TheVariants.{Atom, Structure, Variable}

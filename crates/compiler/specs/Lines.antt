@@ -1,5 +1,5 @@
 -- The items of a clause by their places.
-use Rattle.std.specs.Prelude.{◌≡◌, ℕ, zero, suc, ◌+◌, ◌<◌, ◌≤◌, List, [], ◌∷◌, length, take, slice_index, slice_index_or}
+use Rattle.std.specs.Prelude.{◌≡◌, ℕ, suc, ◌+◌, ◌<◌, List, [], ◌∷◌, length, take, slice_index, slice_index_or}
 use Rattle.horn.specs.Terms.{Terms, node, nil, cons}
 use Rattle.symbols.specs.Symbols.{Signature, name_at, arity_at}
 use Rattle.compiler.specs.Terms.{hop}

@@ -1,5 +1,5 @@
 -- Each slot is set once, and read only afterwards.
-use Rattle.std.specs.Prelude.{◌≡◌, ℕ, zero, suc, ◌<◌, Bool, true, false, List, [], ◌∷◌, length, set, slice_set}
+use Rattle.std.specs.Prelude.{ℕ, zero, suc, ◌<◌, Bool, true, List, [], ◌∷◌, length, slice_set}
 use Rattle.symbols.specs.Symbols.{Signature, arity_at}
 use Rattle.compiler.specs.Filling.{Empty, Filled, Fits, fill}
 use Rattle.code.specs.declared.instructions.Instruction.{Instruction}

@@ -1,5 +1,5 @@
 -- The clause that items spell, its terms in prefix order.
-use Rattle.std.specs.Prelude.{◌≡◌, ℕ, zero, suc, ◌+◌, ◌≤◌, List, [], ◌∷◌, length}
+use Rattle.std.specs.Prelude.{◌≡◌, ℕ, ◌+◌, ◌≤◌, List, [], ◌∷◌, length}
 use Rattle.horn.specs.Terms.{Terms, var, node, nil, cons, count, front, back, evals}
 use Rattle.symbols.specs.Symbols.{Signature, name_at, arity_at, symbols_of}
 use Rattle.code.specs.Meaning.{Terming, Runs}

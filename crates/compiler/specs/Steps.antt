@@ -1,6 +1,6 @@
 -- How far the code of a clause has come.
-use Rattle.std.specs.Prelude.{◌≡◌, ℕ, zero, suc, ◌+◌, ◌<◌, ◌≤◌, Bool, ◌⊎◌, List, [], ◌∷◌, length, take, drop}
-use Rattle.horn.specs.Terms.{Terms, node, nil, cons}
+use Rattle.std.specs.Prelude.{◌≡◌, ℕ, suc, ◌+◌, ◌<◌, ◌≤◌, Bool, ◌⊎◌, List, [], ◌∷◌, length, take}
+use Rattle.horn.specs.Terms.{node, nil, cons}
 use Rattle.symbols.specs.Symbols.{name_at, arity_at}
 use Rattle.compiler.specs.Terms.{hop}
 use Rattle.code.specs.Meaning.{Terming, span}

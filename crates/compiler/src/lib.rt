@@ -1,4 +1,6 @@
 // The compiler: from a clause line to the words of its code.
+#![tactic(auto)]
+
 mod body;
 mod compile;
 mod compiled;
@@ -14,3 +16,4 @@ mod writer;
 
 pub use compile::compile_clause;
 pub use compiled::Compiled;
+pub use symbols::SymbolTable;

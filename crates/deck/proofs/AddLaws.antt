@@ -1,24 +1,22 @@
 -- What adding a line gives.
-use Rattle.std.proofs.Common.{◌≡◌, ℕ, zero, suc, ◌+◌, ◌*◌, ◌<◌, ◌≤◌, Bool, true, false, cond, ◌&&◌, ◌||◌, ltb, leb, ◌≢◌, List, [], ◌∷◌, ◌++◌, length, get_or, take, drop, set, Some, None, Ok, Err, Result, sym, refl, ap, ◌∙◌, subst, ap₂, add-one, arith, length-append, get_or-set_other, get_or-set_same, take_at}
-use Rattle.std.proofs.lemmas.Bool.{and_parts, leb-true, lt-ltb, le-ltb}
+use Rattle.std.proofs.Common.{◌≡◌, ℕ, ◌+◌, ◌*◌, ◌<◌, ◌≤◌, cond, ltb, ◌≢◌, List, [], ◌∷◌, ◌++◌, length, get_or, take, drop, set, Some, None, Ok, Err, sym, refl, ap, ◌∙◌, subst, ap₂, add-one, arith, length-append, get_or-set_other, get_or-set_same, take_at}
+use Rattle.std.proofs.lemmas.Bool.{lt-ltb, le-ltb}
 use Rattle.horn.specs.Terms.{Name, Term, Terms, var, node, nil, cons, count}
-use Rattle.horn.specs.Clauses.{Variable, Clause, Written, written, blanks, apart, aparts}
+use Rattle.horn.specs.Clauses.{Clause, Written, blanks, apart, aparts}
 use Rattle.horn.specs.Weights.{own, weigh, weighs, under, load, clause_weight}
-use Rattle.horn.specs.Notation.{Word, name, structure, variable, word_for, words, wordss}
+use Rattle.horn.specs.Notation.{wordss}
 use Rattle.horn.proofs.Blanks.{written-aparts}
 use Rattle.lines.specs.declared.kind.Kind.TheVariants.{Clause as ClauseLine}
 use Rattle.lines.specs.declared.faults.LineFault.{LineFault}
-use Rattle.lines.specs.declared.faults.CallFault.{CallFault}
 use Rattle.lines.specs.declared.faults.CallFault.TheVariants.{Line, Limit}
-use Rattle.lines.specs.Words.{lower, every, namely, is_name, GoodWord}
 use Rattle.lines.specs.Lines.{then}
-use Rattle.lines.specs.Grammar.{Good, Goods, Proper}
+use Rattle.lines.specs.Grammar.{Proper}
 use Rattle.lines.specs.Clauses.{clause_from, read_clause, SpellsClause, OneReading}
 use Rattle.symbols.specs.Symbols.{Signature}
 use Rattle.symbols.specs.Numbers.{note_words}
 use Rattle.symbols.specs.Tables.{up_to}
 use Rattle.symbols.proofs.NameLaws.{kept-before, up_to-same}
-use Rattle.symbols.specs.Noting.{Fine, Fines, Begins}
+use Rattle.symbols.specs.Noting.{Begins}
 use Rattle.deck.specs.Decks.{Contents, words_in, extended, passed, within, adding}
 use Rattle.deck.specs.Held.{line_in}
 

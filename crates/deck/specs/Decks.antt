@@ -1,9 +1,9 @@
 -- The deck: its lines, their symbols by first occurrence, and the words of their code.
-use Rattle.std.specs.Prelude.{◌≡◌, ℕ, ◌+◌, ◌*◌, ◌≤◌, Bool, cond, List, [], ◌∷◌, ◌++◌, length, Some, None, Ok, Err, Option, Result, nat_lt}
+use Rattle.std.specs.Prelude.{ℕ, ◌+◌, cond, List, [], ◌∷◌, ◌++◌, length, Some, None, Ok, Err, Option, Result, nat_lt}
 use Rattle.horn.specs.Terms.{cons}
 use Rattle.horn.specs.Clauses.{Clause, written}
 use Rattle.horn.specs.Weights.{clause_weight}
-use Rattle.horn.specs.Notation.{Word, name, structure, variable, wordss}
+use Rattle.horn.specs.Notation.{Word, wordss}
 use Rattle.lines.specs.declared.faults.CallFault.{CallFault}
 use Rattle.lines.specs.declared.faults.CallFault.TheVariants.{Line, Limit}
 use Rattle.lines.specs.Lines.{then}

@@ -1,4 +1,6 @@
 // The deck: the clause lines that it took.
+#![tactic(auto)]
+
 mod state;
 mod taking;
 

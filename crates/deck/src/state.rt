@@ -12,7 +12,6 @@ pub struct Deck {
     pub(crate) symbols: SymbolTable,
     pub(crate) words: usize,
     ghost few: { count ≤ 256 },
-    ghost known: { symbols.len ≤ 256 },
     ghost short: { (k : ℕ) → slice_index lens k ≤ 512 },
     ghost light: { words ≤ 8192 },
 }

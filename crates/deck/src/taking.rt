@@ -10,8 +10,6 @@ use symbols::{SymbolTable, note_symbols};
 // The clauses and the code words of a deck, at most.
 const CLAUSE_LIMIT: usize = 256;
 
-const SYMBOL_LIMIT: usize = 256;
-
 const WORD_LIMIT: usize = 8192;
 
 const LINE_BYTES: usize = 512;
@@ -51,7 +49,7 @@ impl Deck {
             return Err(CallFault::Limit { place: 1 });
         }
         let len = self.symbols.len();
-        if !note_symbols(&mut self.symbols, clause.body, SYMBOL_LIMIT) {
+        if !note_symbols(&mut self.symbols, clause.body) {
             self.symbols.truncate(len);
             return Err(CallFault::Limit { place: 2 });
         }

@@ -1,16 +1,17 @@
 -- The program that an image's parts are.
-use Rattle.std.specs.Prelude.{◌≡◌, ℕ, ◌<◌, List, [], ◌∷◌, map, length}
+use Rattle.std.specs.Prelude.{◌≡◌, ℕ, ◌<◌, List, [], ◌∷◌, map, length, slice_index}
 use Rattle.horn.specs.Instances.{Rule}
 use Rattle.code.specs.Words.{decode}
 use Rattle.code.specs.Meaning.{Symbols, code_rule}
 use Rattle.image.specs.declared.rows.Row.{Row}
-use Rattle.symbols.specs.Symbols.{Symbol, symbol_at, symbols_of}
+use Rattle.symbols.specs.Symbols.{Symbol, symbol_at}
 use Rattle.image.specs.Rows.{next, code_of}
 use Rattle.image.specs.Checked.{Parts}
+use Rattle.image.specs.Images.{arities}
 
 -- what the numbers of symbols stand for
 abbrev pub symbols_in : Parts → Symbols
-symbols_in p = symbols_of p.symbols
+symbols_in p = record { name = λ i. (symbol_at p.symbols i).name; arity = λ i. slice_index (arities p) i }
 
 -- no two numbers stand for one symbol
 abbrev pub Distinct : List Symbol → Type 0

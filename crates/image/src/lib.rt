@@ -1,4 +1,6 @@
 // Images: symbols, rows and code as words; the check that accepts them, and their files.
+#![tactic(auto)]
+
 mod checker;
 mod clauses;
 mod faults;

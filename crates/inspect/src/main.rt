@@ -1,4 +1,6 @@
 // Lists image files: the header, symbols and clauses of each, or the one line of its fault.
+#![tactic(auto)]
+
 mod listing;
 
 use anyhow::anyhow;

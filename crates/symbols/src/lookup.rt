@@ -8,7 +8,7 @@ use crate::names::{same_name, write_name};
 use crate::table::SymbolTable;
 
 // The symbols, at most, and the bytes of a name.
-const SYMBOL_LIMIT: usize = 384;
+const SYMBOL_LIMIT: usize = 256;
 
 const NAME_LIMIT: usize = 31;
 
@@ -27,7 +27,7 @@ impl SymbolTable {
     // How many symbols there are.
     pub fn len(&self) -> usize
         ensures value { result ≡ length (signature self.now) }
-        ensures few { result ≤ 384 }
+        ensures few { result ≤ 256 }
     {
         self.len
     }
@@ -94,7 +94,7 @@ impl SymbolTable {
 
     // Adds a symbol at the end.
     pub fn add(&mut self, name: &[u8], arity: u8)
-        requires few { length (signature self.old) < 384 }
+        requires few { length (signature self.old) < 256 }
         requires short { length name.now ≤ 31 }
         requires small { arity ≤ 8 }
         ensures { signature self.new ≡ signature self.old ++ record { name = name.entry.now; arity = arity } ∷ [] }
@@ -106,19 +106,17 @@ impl SymbolTable {
         self.len = k + 1;
     }
 
-    // Adds a symbol that is not there yet; where there would be more than `limit`, nothing is added.
-    pub fn note(&mut self, name: &[u8], arity: u8, limit: usize) -> bool
-        requires limit { limit ≤ 384 }
+    // Adds a symbol that is not there yet; where it finds no room, nothing is added.
+    pub fn note(&mut self, name: &[u8], arity: u8) -> bool
         requires short { length name.now ≤ 31 }
         requires small { arity ≤ 8 }
         ensures noted { result ≡ true → signature self.new ≡ note_symbol (signature self.old) name.now arity }
-        ensures full { result ≡ false → (limit < length (note_symbol (signature self.old) name.now arity)) × (signature self.new ≡ signature self.old) }
-        ensures within { length (signature self.old) ≤ limit → length (signature self.new) ≤ limit }
+        ensures full { result ≡ false → (256 < length (note_symbol (signature self.old) name.now arity)) × (signature self.new ≡ signature self.old) }
     {
         if let Some(_) = self.find(name, arity) {
             return true;
         }
-        if self.len >= limit {
+        if self.len == SYMBOL_LIMIT {
             return false;
         }
         self.add(name, arity);

@@ -9,33 +9,29 @@ ghost use Rattle.symbols.specs.Noting.{Fine, Fines, Begins};
 use crate::table::SymbolTable;
 use lines::{Fields, Token};
 
-// Notes a token's symbol; where there would be more than `limit`, nothing is noted.
-fn note_token(symbols: &mut SymbolTable, token: Token<'_>, limit: usize) -> bool
-    requires limit { limit ≤ 384 }
-    requires fine { Fine (word token) }
+// Notes a token's symbol; where it finds no room, nothing is noted.
+fn note_token(symbols: &mut SymbolTable, token: Token<'_>) -> bool
+    requires { Fine (word token) }
     ensures noted { result ≡ true → signature symbols.new ≡ note_word (signature symbols.old) (word token.entry) }
-    ensures full { result ≡ false → (limit < length (note_word (signature symbols.old) (word token.entry))) × (signature symbols.new ≡ signature symbols.old) }
-    ensures within { length (signature symbols.old) ≤ limit → length (signature symbols.new) ≤ limit }
+    ensures full { result ≡ false → (256 < length (note_word (signature symbols.old) (word token.entry))) × (signature symbols.new ≡ signature symbols.old) }
 {
     match token {
-        Token::Name(f) => symbols.note(f, 0, limit),
-        Token::Structure(f, n) => symbols.note(f, n, limit),
+        Token::Name(f) => symbols.note(f, 0),
+        Token::Structure(f, n) => symbols.note(f, n),
         Token::Variable(_) => true,
     }
 }
 
-// Notes the symbols of the tokens, by first occurrence, up to one that would pass the limit.
-pub fn note_symbols(symbols: &mut SymbolTable, body: Fields<'_>, limit: usize) -> bool
-    requires limit { limit ≤ 384 }
-    requires fine { Fines (words_left body) }
+// Notes the symbols of the tokens, by first occurrence, up to one that finds no room.
+pub fn note_symbols(symbols: &mut SymbolTable, body: Fields<'_>) -> bool
+    requires { Fines (words_left body) }
     ensures noted { result ≡ true → signature symbols.new ≡ note_words (signature symbols.old) (words_left body.entry) }
-    ensures full { result ≡ false → limit < length (note_words (signature symbols.old) (words_left body.entry)) }
+    ensures full { result ≡ false → 256 < length (note_words (signature symbols.old) (words_left body.entry)) }
     ensures begins { Begins (signature symbols.old) (signature symbols.new) }
-    ensures within { length (signature symbols.old) ≤ limit → length (signature symbols.new) ≤ limit }
 {
     let mut left = body;
     while let Some(token) = left.next_token() {
-        if !note_token(symbols, token, limit) {
+        if !note_token(symbols, token) {
             return false;
         }
     }

@@ -1,13 +1,10 @@
-use Rattle.std.proofs.Common.{◌≡◌, ℕ, ◌+◌, ◌-◌, ◌<◌, ◌≤◌, length, take, sym, refl, ap, ◌∙◌, subst, arith, rules}
+use Rattle.std.proofs.Common.{◌≡◌, sym, refl, ap, subst, arith}
 use Rattle.symbols.specs.Symbols.{arity_at}
 use Rattle.compiler.specs.Places.{Run, before}
-use Rattle.compiler.specs.Emits.{Rowed}
-use Rattle.compiler.specs.Steps.{GoalDown}
 use Rattle.compiler.specs.Tables.{laid, Ready}
 use Rattle.symbols.specs.Tables.{signature}
-use Rattle.compiler.specs.declared.rows.Role.TheVariants.{Puts}
 use Rattle.compiler.proofs.PlaceLaws.{run-within, run_up}
-use Rattle.compiler.proofs.TableLaws.{run-hop, run-own}
+use Rattle.compiler.proofs.TableLaws.{run-own}
 use Rattle.compiler.proofs.StepLaws.{goal-start, goal-empty, goal-turn, goal-size, goal-end, goal-room}
 use Rattle.compiler.proofs.OutputLaws.{onto-none, onto-then}
 use Rattle.compiler.proofs.body.add_goal.Goals as goal

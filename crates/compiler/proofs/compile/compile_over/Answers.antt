@@ -1,4 +1,4 @@
-use Rattle.std.proofs.Common.{◌≡◌, ℕ, ◌+◌, ◌-◌, ◌<◌, ◌≤◌, List, [], map, length, get_or, take, drop, sym, refl, ap, ◌∙◌, subst, ap₂, arith, length-take-le, rules}
+use Rattle.std.proofs.Common.{◌≡◌, ◌+◌, ◌-◌, [], map, length, get_or, take, drop, sym, ap, ◌∙◌, subst, arith, length-take-le}
 use Rattle.horn.specs.Terms.{count}
 use Rattle.lines.specs.Said.{terms_of, words_left}
 use Rattle.code.specs.Words.{decode}

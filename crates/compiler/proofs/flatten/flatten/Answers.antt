@@ -1,4 +1,4 @@
-use Rattle.std.proofs.Common.{◌≡◌, ℕ, suc, ◌+◌, ◌-◌, ◌<◌, ◌≤◌, [], ◌∷◌, ◌++◌, length, take, set, sym, refl, ap, ◌∙◌, subst, ap₂, arith, length-set, length-take-le, rules}
+use Rattle.std.proofs.Common.{◌≡◌, suc, ◌+◌, ◌-◌, ◌<◌, length, take, set, sym, ap, subst, arith, length-set, length-take-le}
 use Rattle.horn.specs.Notation.{arity}
 use Rattle.lines.specs.Said.{words_left}
 use Rattle.lines.specs.Tokens.{word}

@@ -1,4 +1,4 @@
-use Rattle.std.proofs.Common.{◌≡◌, ℕ, ◌+◌, ◌-◌, ◌<◌, ◌≤◌, length, take, sym, refl, ap, ◌∙◌, subst, arith, rules}
+use Rattle.std.proofs.Common.{◌+◌, take, sym, refl, ap, ◌∙◌, subst, arith}
 use Rattle.symbols.specs.Symbols.{arity_at}
 use Rattle.compiler.specs.Emits.{Rowed}
 use Rattle.compiler.specs.Tables.{laid, Ready}

@@ -1,5 +1,4 @@
-use Rattle.std.proofs.Common.{◌≡◌, ℕ, ◌+◌, ◌-◌, ◌<◌, ◌≤◌, length, take, sym, refl, ap, ◌∙◌, subst, arith, rules}
-use Rattle.symbols.specs.Symbols.{arity_at}
+use Rattle.std.proofs.Common.{◌+◌, take, sym, refl, ap, subst, arith}
 use Rattle.compiler.specs.Terms.{hop}
 use Rattle.compiler.specs.Places.{Run, gain}
 use Rattle.compiler.specs.Lines.{Sound}

@@ -1,4 +1,3 @@
-use Rattle.std.proofs.Common.{arith, rules}
 use Rattle.compiler.proofs.OutputLaws.{pushed}
 use Rattle.compiler.proofs.output.push.Goals as goal
 

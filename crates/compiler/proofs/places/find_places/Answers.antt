@@ -1,4 +1,4 @@
-use Rattle.std.proofs.Common.{◌≡◌, ◌-◌, ◌<◌, ◌≤◌, [], length, get_or, sym, refl, ap, ◌∙◌, subst, arith, rules}
+use Rattle.std.proofs.Common.{◌≡◌, [], refl, subst, arith, rules}
 use Rattle.compiler.specs.Places.{Ends}
 use Rattle.compiler.specs.Lines.{plan}
 use Rattle.symbols.specs.Tables.{signature}

@@ -1,4 +1,4 @@
-use Rattle.std.proofs.Common.{◌≡◌, [], length}
+use Rattle.std.proofs.Common.{[]}
 use Rattle.compiler.specs.Places.{Ends}
 use Rattle.compiler.specs.Lines.{plan}
 use Rattle.symbols.specs.Tables.{signature}

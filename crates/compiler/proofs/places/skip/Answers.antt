@@ -1,7 +1,5 @@
 use Rattle.std.proofs.Common.{◌≡◌, ◌+◌, ◌<◌, length, sym, refl, ap, ◌∙◌, subst, arith}
-use Rattle.symbols.specs.Symbols.{Signature, name_at, arity_at, symbols_of}
 use Rattle.compiler.specs.Terms.{hop}
-use Rattle.code.specs.Meaning.{Terming}
 use Rattle.compiler.specs.Tables.{table}
 use Rattle.compiler.proofs.TableLaws.{hop-more, run_at}
 use Rattle.compiler.proofs.places.skip.Goals as goal

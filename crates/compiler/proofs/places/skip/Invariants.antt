@@ -1,7 +1,5 @@
 use Rattle.std.proofs.Common.{◌≡◌, ◌<◌, length}
-use Rattle.symbols.specs.Symbols.{Signature, name_at, arity_at, symbols_of}
 use Rattle.compiler.specs.Terms.{hop}
-use Rattle.code.specs.Meaning.{Terming}
 use Rattle.compiler.specs.Tables.{table}
 use Rattle.compiler.proofs.places.skip.Given as goal
 

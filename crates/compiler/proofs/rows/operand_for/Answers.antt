@@ -1,4 +1,4 @@
-use Rattle.std.proofs.Common.{◌≡◌, sym, refl, subst}
+use Rattle.std.proofs.Common.{refl, subst}
 use Rattle.compiler.specs.Lines.{Sound}
 use Rattle.compiler.specs.Tables.{laid}
 use Rattle.symbols.specs.Tables.{signature}

@@ -1,4 +1,3 @@
-use Rattle.std.proofs.Common.{arith}
 use Rattle.compiler.proofs.FillLaws.{picked-known, picked-fresh}
 use Rattle.compiler.proofs.rows.slot.Goals as goal
 

@@ -1,8 +1,7 @@
-use Rattle.std.proofs.Common.{◌≡◌, ℕ, ◌+◌, ◌<◌, length, take, sym, refl, ap, ◌∙◌, subst, arith, rules}
-use Rattle.compiler.specs.Terms.{hop}
+use Rattle.std.proofs.Common.{◌≡◌, ℕ, ◌+◌, ◌<◌, length, take, sym, refl, ap, ◌∙◌, subst, arith}
 use Rattle.compiler.specs.Emits.{Rowed}
 use Rattle.compiler.specs.Output.{Onto}
-use Rattle.compiler.specs.Tables.{laid, table, Ready}
+use Rattle.compiler.specs.Tables.{laid, Ready}
 use Rattle.compiler.proofs.TableLaws.{hop-more, run_at}
 use Rattle.compiler.proofs.FillLaws.{rowed-none, rowed-more}
 use Rattle.compiler.proofs.OutputLaws.{onto-none, onto-then}

@@ -1,4 +1,4 @@
-use Rattle.std.proofs.Common.{arith, rules}
+use Rattle.std.proofs.Common.{arith}
 use Rattle.compiler.proofs.StepLaws.{hefts-is}
 use Rattle.compiler.proofs.writer.write_clause.Goals as goal
 

@@ -1,8 +1,7 @@
-use Rattle.std.proofs.Common.{◌≡◌, ℕ, ◌+◌, ◌-◌, ◌<◌, ◌≤◌, Bool, false, List, [], length, take, replicate, sym, refl, ap, ◌∙◌, subst, arith, rules}
+use Rattle.std.proofs.Common.{◌≡◌, ℕ, ◌-◌, ◌≤◌, Bool, false, [], length, take, replicate, refl, ap, ◌∙◌, subst, arith}
 use lib.ListN.{length-replicate}
 use Rattle.symbols.specs.Symbols.{Signature}
-use Rattle.compiler.specs.Lines.{plan, structures, variables}
-use Rattle.compiler.specs.Places.{before}
+use Rattle.compiler.specs.Lines.{plan}
 use Rattle.symbols.specs.Tables.{signature}
 use Rattle.symbols.proofs.SymbolLaws.{signature-long, signature-small}
 use Rattle.compiler.proofs.StepLaws.{Coded, hefts-is, parts-long, before-all, take-false, ready_made, all-empty, slot-below, ends-any, coded}

@@ -1,9 +1,8 @@
-use Rattle.std.proofs.Common.{◌≡◌, ℕ, ◌+◌, ◌-◌, ◌<◌, ◌≤◌, List, length, get_or, take, drop, sym, refl, ap, ◌∙◌, subst, arith, rules}
+use Rattle.std.proofs.Common.{◌≡◌, ◌≤◌, length, get_or, sym, refl, ap, ◌∙◌, subst, arith}
 use Rattle.horn.specs.Terms.{count}
-use Rattle.symbols.specs.Symbols.{Signature, arity_at}
+use Rattle.symbols.specs.Symbols.{arity_at}
 use Rattle.compiler.specs.Terms.{hop}
 use Rattle.compiler.specs.Places.{Run, before}
-use Rattle.compiler.specs.Reading.{arities}
 use Rattle.compiler.specs.Tables.{laid, table, Ready}
 use Rattle.symbols.specs.Tables.{signature}
 use Rattle.compiler.proofs.ReadLaws.{stack}

@@ -8,10 +8,10 @@ use Rattle.symbols.proofs.NoteLaws.{begins-self, begins-then, word-begins, full-
 use Rattle.symbols.proofs.noting.note_symbols.Goals as goal
 
 pub loop-token-init : goal.loop-token-init
-loop-token-init c = (refl, c.requires.fine, begins-self _, λ h. h)
+loop-token-init c = (refl, c.requires, begins-self _)
 
 pub note_token-requires : goal.note_token-requires
-note_token-requires c = record { limit = c.requires.limit; fine = (subst Fines c.in-Some.ensures.value c.loop-token.invariant.1).0 }
+note_token-requires c = (subst Fines c.in-Some.ensures.value c.loop-token.invariant.1).0
 
 pub returns-then-not-note_token : goal.returns-then-not-note_token
 returns-then-not-note_token c =
@@ -19,10 +19,9 @@ returns-then-not-note_token c =
     record {
       noted = λ e. (let z : ◌≡◌ {A = ℕ} 0 1 = cc in absurd (omega arith));
       full = λ e.
-          (let all = full-words (signature c.loop-token.symbols) (word c.in-Some.token) (words_left c.next_token.new.self) c.args.limit f.0 in
+          (let all = full-words (signature c.loop-token.symbols) (word c.in-Some.token) (words_left c.next_token.new.self) 256 f.0 in
           omega (arith, ap length (sym (ap (note_words (signature c.loop-token.symbols)) c.in-Some.ensures.value) ∙ c.loop-token.invariant.0)));
       begins = subst (Begins (signature c.args.symbols.now)) (sym f.1) c.loop-token.invariant.2;
-      within = λ h. c.note_token.ensures.within (c.loop-token.invariant.3 h);
     }
 
 pub loop-token-preserved : goal.loop-token-preserved
@@ -31,7 +30,6 @@ loop-token-preserved c =
       ap (λ s. note_words s (words_left c.next_token.new.self)) n ∙ sym (ap (note_words (signature c.loop-token.symbols)) c.in-Some.ensures.value) ∙ c.loop-token.invariant.0,
       (subst Fines c.in-Some.ensures.value c.loop-token.invariant.1).1,
       subst (Begins (signature c.args.symbols.now)) (sym n) (begins-then c.loop-token.invariant.2 (word-begins (signature c.loop-token.symbols) (word c.in-Some.token))),
-      λ h. c.note_token.ensures.within (c.loop-token.invariant.3 h),
     )
 
 pub returns : goal.returns
@@ -39,5 +37,4 @@ returns c = record {
   noted = λ e. ap (note_words (signature c.loop-token.symbols)) (sym c.in_default.ensures.value) ∙ c.loop-token.invariant.0;
   full = λ e. (let z : ◌≡◌ {A = ℕ} 0 1 = cc in absurd (omega arith));
   begins = c.loop-token.invariant.2;
-  within = c.loop-token.invariant.3;
 }

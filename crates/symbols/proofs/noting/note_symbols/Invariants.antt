@@ -1,4 +1,4 @@
-use Rattle.std.proofs.Common.{◌≡◌, ◌≤◌, length}
+use Rattle.std.proofs.Common.{◌≡◌, length}
 use Rattle.lines.specs.Said.{words_left}
 use Rattle.symbols.specs.Numbers.{note_words}
 use Rattle.symbols.specs.Tables.{signature}
@@ -9,7 +9,6 @@ abbrev pub invariant-loop-token : goal.invariant-loop-token
 invariant-loop-token l =
     (note_words (signature l.symbols) (words_left l.left) ≡ note_words (signature l.initial.symbols) (words_left l.body))
     × Fines (words_left l.left) × Begins (signature l.initial.symbols) (signature l.symbols)
-    × (length (signature l.initial.symbols) ≤ l.limit → length (signature l.symbols) ≤ l.limit)
 
 abbrev pub decreases-loop-token : goal.decreases-loop-token
 decreases-loop-token l = length l.left.rest.now

@@ -1,20 +1,19 @@
-use Rattle.std.proofs.Common.{◌≡◌, ℕ, ◌+◌, ◌<◌, ◌≤◌, List, [], length, Ok, sym, refl, ap, ◌∙◌, subst, ap₂, arith, length-take, rules}
+use Rattle.std.proofs.Common.{◌≡◌, ℕ, ◌+◌, ◌<◌, ◌≤◌, [], length, Ok, sym, refl, ap, ◌∙◌, subst, ap₂, arith, rules}
 use Rattle.horn.specs.Weights.{clause_weight}
 use Rattle.lines.specs.Clauses.{read_clause}
 use Rattle.lines.specs.Said.{terms_of, words_left}
 use Rattle.symbols.specs.Symbols.{Signature}
 use Rattle.symbols.specs.Numbers.{note_words}
-use Rattle.symbols.specs.Tables.{up_to, signature}
+use Rattle.symbols.specs.Tables.{signature}
 use Rattle.symbols.proofs.SymbolLaws.{up_to-long, signature-long}
 use Rattle.symbols.proofs.NameLaws.{set_below}
 use Rattle.symbols.specs.Noting.{Fines}
-use Rattle.deck.specs.Decks.{Contents, words_in, extended, reply, after, adding}
+use Rattle.deck.specs.Decks.{Contents, words_in, extended, reply, after}
 use Rattle.deck.specs.Held.{line_in, contents}
-use Rattle.symbols.proofs.NoteLaws.{begins-long}
+use Rattle.symbols.proofs.NoteLaws.{begins-long, fine-terms}
 use Rattle.deck.proofs.AddLaws.{Spelt, spelt, adding-1, adding-2, adding-3, adding-ok, begins-take, line-more}
-use Rattle.symbols.proofs.NoteLaws.{fine-terms}
 use Rattle.deck.proofs.state.Deck.add.Goals as goal
-use Rattle.deck.proofs.state.Deck.add.Goals.{In_ok-clause, After-note_symbols}
+use Rattle.deck.proofs.state.Deck.add.Goals.{In_ok-clause}
 
 -- the clause that the line spells
 clause-of : (c : In_ok-clause) → Spelt c.args.line.now (terms_of c.in_ok-clause.clause)
@@ -42,22 +41,7 @@ returns-then-k-eq-CLAUSE_LIMIT c =
 pub note_symbols-requires : goal.note_symbols-requires
 note_symbols-requires c =
     let s = (goal.at.note_symbols-requires c).In_ok-clause in
-    record { limit = omega arith; fine = subst Fines (sym c.in_ok-clause.ensures.counted.tokens) (fine-terms (terms_of c.in_ok-clause.clause) [] (clause-of s).proper.good tt) }
-
--- the symbols noted are not too many
-noted-few : (c : After-note_symbols) → c.note_symbols.new.symbols.len ≤ 256
-noted-few c = omega (arith, signature-long c.note_symbols.new.symbols, c.note_symbols.ensures.within (omega (arith, signature-long c.args.self.now.symbols, c.args.self.now.known)))
-
-pub invariant_of-self : goal.invariant_of-self
-invariant_of-self c = record { few = c.args.self.now.few; known = omega (arith, signature-long c.truncate.new.self, ap length c.truncate.ensures, length-take c.len-len.result (signature c.note_symbols.new.symbols), signature-long c.note_symbols.new.symbols, noted-few (goal.at.invariant_of-self c).After-note_symbols); short = c.args.self.now.short; light = c.args.self.now.light }
-
-pub invariant_of-self-then-words-gt-WORD_LIMIT : goal.invariant_of-self-then-words-gt-WORD_LIMIT
-invariant_of-self-then-words-gt-WORD_LIMIT c = record {
-  few = c.args.self.now.few;
-  known = omega (arith, signature-long c.truncate-then-words-gt-WORD_LIMIT.new.self, ap length c.truncate-then-words-gt-WORD_LIMIT.ensures, length-take c.len-len.result (signature c.note_symbols.new.symbols), signature-long c.note_symbols.new.symbols, noted-few (goal.at.invariant_of-self-then-words-gt-WORD_LIMIT c).After-note_symbols);
-  short = c.args.self.now.short;
-  light = c.args.self.now.light;
-}
+    subst Fines (sym c.in_ok-clause.ensures.counted.tokens) (fine-terms (terms_of c.in_ok-clause.clause) [] (clause-of s).proper.good tt)
 
 pub truncate-requires : goal.truncate-requires
 truncate-requires c = omega (arith, c.len-len.ensures.value, begins-long c.note_symbols.ensures.begins)
@@ -86,7 +70,7 @@ returns-then-words-gt-WORD_LIMIT c =
     let s = (goal.at.returns-then-words-gt-WORD_LIMIT c).In_ok-clause in
     let noted = c.note_symbols.ensures.noted c.if-not-note_symbols.false ∙ ap (note_words (signature c.args.self.now.symbols)) (sym (words_are s)) in
     let e = adding-3 (contents c.args.self.now) c.args.line.now (clause-of s).clause (reads s) (omega (arith, up_to-long c.args.self.now.count (line_in c.args.self.now.bytes c.args.self.now.lens), c.args.self.now.few, c.if-k-eq-CLAUSE_LIMIT.false))
-    (omega (arith, ap length noted, c.note_symbols.ensures.within (omega (arith, signature-long c.args.self.now.symbols, c.args.self.now.known))))
+    (omega (arith, ap length noted, signature-long c.note_symbols.new.symbols, c.note_symbols.new.symbols.few))
     (omega (arith, (clause-of s).weight, c.in_ok-clause.ensures.counted.weight, c.if-words-gt-WORD_LIMIT.true)) in
     record {
       value = sym (ap (λ r. reply r tt) e);
@@ -102,7 +86,7 @@ pub overflow_cast-self : goal.overflow_cast-self
 overflow_cast-self c = omega (arith, (clause-of (goal.at.overflow_cast-self c).In_ok-clause).short)
 
 pub invariant_of-self-2 : goal.invariant_of-self-2
-invariant_of-self-2 c = record { few = omega (arith, c.args.self.now.few, c.if-k-eq-CLAUSE_LIMIT.false); known = noted-few (goal.at.invariant_of-self-2 c).After-note_symbols; short = set_below c.args.self.now.lens c.args.self.now.count (length c.args.line.now) 512 c.args.self.now.short (clause-of (goal.at.invariant_of-self-2 c).In_ok-clause).short; light = omega (arith, c.if-words-gt-WORD_LIMIT.false) }
+invariant_of-self-2 c = record { few = omega (arith, c.args.self.now.few, c.if-k-eq-CLAUSE_LIMIT.false); short = set_below c.args.self.now.lens c.args.self.now.count (length c.args.line.now) 512 c.args.self.now.short (clause-of (goal.at.invariant_of-self-2 c).In_ok-clause).short; light = omega (arith, c.if-words-gt-WORD_LIMIT.false) }
 
 pub returns : goal.returns
 returns c =
@@ -110,7 +94,7 @@ returns c =
     let noted = c.note_symbols.ensures.noted c.if-not-note_symbols.false ∙ ap (note_words (signature c.args.self.now.symbols)) (sym (words_are s)) in
     let weight : c.in_ok-clause.clause.weight ≡ clause_weight (clause-of s).clause = c.in_ok-clause.ensures.counted.weight ∙ sym (clause-of s).weight in
     let e = adding-ok (contents c.args.self.now) c.args.line.now (clause-of s).clause (reads s) (omega (arith, up_to-long c.args.self.now.count (line_in c.args.self.now.bytes c.args.self.now.lens), c.args.self.now.few, c.if-k-eq-CLAUSE_LIMIT.false))
-    (omega (arith, ap length noted, c.note_symbols.ensures.within (omega (arith, signature-long c.args.self.now.symbols, c.args.self.now.known))))
+    (omega (arith, ap length noted, signature-long c.note_symbols.new.symbols, c.note_symbols.new.symbols.few))
     (omega (arith, weight, c.if-words-gt-WORD_LIMIT.false)) in
     record {
       value = sym (ap (λ r. reply r tt) e);

@@ -3,4 +3,4 @@ use Rattle.symbols.proofs.NameLaws.{zeros}
 use Rattle.symbols.proofs.table.SymbolTable.new.Goals as goal
 
 pub invariant_of-result : goal.invariant_of-result
-invariant_of-result c = record { few = omega arith; short = (λ k. zeros 384 31 k); small = (λ k. zeros 384 8 k) }
+invariant_of-result c = record { few = omega arith; short = (λ k. zeros 256 31 k); small = (λ k. zeros 256 8 k) }

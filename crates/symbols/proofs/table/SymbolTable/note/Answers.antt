@@ -8,22 +8,20 @@ pub returns-in-Some : goal.returns-in-Some
 returns-in-Some c = record {
   noted = λ e. note-found (signature c.args.self.now) c.args.name.now c.args.arity _ c.in-Some.ensures;
   full = λ e. (let z : ◌≡◌ {A = ℕ} 0 1 = cc in absurd (omega arith));
-  within = λ h. h;
 }
 
-pub returns-then-self-limit : goal.returns-then-self-limit
-returns-then-self-limit c = record {
+pub returns-then-self-eq-SYMBOL_LIMIT : goal.returns-then-self-eq-SYMBOL_LIMIT
+returns-then-self-eq-SYMBOL_LIMIT c = record {
   noted = λ e. (let z : ◌≡◌ {A = ℕ} 0 1 = cc in absurd (omega arith));
   full = λ e. (
-    omega (arith, ap length (note-new (signature c.args.self.now) c.args.name.now c.args.arity c.in_default.ensures), length-append (signature c.args.self.now) (record { name = c.args.name.now; arity = c.args.arity } ∷ []), signature-long c.args.self.now, c.if-self-limit.true),
+    omega (arith, ap length (note-new (signature c.args.self.now) c.args.name.now c.args.arity c.in_default.ensures), length-append (signature c.args.self.now) (record { name = c.args.name.now; arity = c.args.arity } ∷ []), signature-long c.args.self.now, c.if-self-eq-SYMBOL_LIMIT.true),
     refl,
   );
-  within = λ h. h;
 }
 
 pub add-requires : goal.add-requires
 add-requires c = record {
-  few = omega (arith, signature-long c.args.self.now, c.args.self.now.few, c.if-self-limit.false);
+  few = omega (arith, signature-long c.args.self.now, c.args.self.now.few, c.if-self-eq-SYMBOL_LIMIT.false);
   short = c.requires.short;
   small = c.requires.small;
 }
@@ -32,5 +30,4 @@ pub returns : goal.returns
 returns c = record {
   noted = λ e. c.add.ensures ∙ note-new (signature c.args.self.now) c.args.name.now c.args.arity c.in_default.ensures;
   full = λ e. (let z : ◌≡◌ {A = ℕ} 0 1 = cc in absurd (omega arith));
-  within = λ h. omega (arith, ap length c.add.ensures, length-append (signature c.args.self.now) (record { name = c.args.name.now; arity = c.args.arity } ∷ []), signature-long c.args.self.now, c.if-self-limit.false);
 }
