@@ -5,7 +5,7 @@ use Rattle.lines.specs.declared.faults.FieldFault.TheVariants.{Form}
 use Rattle.lines.specs.declared.faults.LineFault.{LineFault}
 use Rattle.lines.specs.declared.faults.LineFault.TheVariants.{Field, Length, Header, Missing, LeftOver, Variable, Heavy}
 use Rattle.lines.specs.declared.faults.CallFault.{CallFault}
-use Rattle.lines.specs.declared.faults.CallFault.TheVariants.{Line, Limit, State, Buffer, Fuel}
+use Rattle.lines.specs.declared.faults.CallFault.TheVariants.{Line, Limit, Buffer}
 use Rattle.lines.specs.declared.refusals.Refusal.{Refusal}
 use Rattle.horn.specs.Notation.{fault_line}
 use Rattle.text.specs.Buffers.{fitting}
@@ -32,9 +32,7 @@ line_refusal (Heavy p) = refusal 7 2 p
 abbrev pub call_refusal : CallFault → Refusal
 call_refusal (Line e) = line_refusal e
 call_refusal (Limit p) = refusal 8 3 p
-call_refusal State = refusal 9 3 0
 call_refusal Buffer = refusal 10 3 0
-call_refusal Fuel = refusal 11 3 0
 
 -- `R,number,layer,place,rule`
 abbrev pub refusal_line : Refusal → List ℕ

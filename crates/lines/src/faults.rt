@@ -34,12 +34,8 @@ pub enum CallFault {
     Line(LineFault),
     // the clauses (1), symbols (2) or code words (3) pass their limit
     Limit { place: usize },
-    // the state does not grant the call
-    State,
     // what is to be written is longer than the buffer
     Buffer,
-    // more fuel than a query may have
-    Fuel,
 }
 
 impl From<FieldFault> for LineFault {

@@ -47,9 +47,7 @@ impl CallFault {
         match self {
             CallFault::Line(fault) => fault.refusal(),
             CallFault::Limit { place } => Refusal::at(8, 3, place),
-            CallFault::State => Refusal::at(9, 3, 0),
             CallFault::Buffer => Refusal::at(10, 3, 0),
-            CallFault::Fuel => Refusal::at(11, 3, 0),
         }
     }
 }

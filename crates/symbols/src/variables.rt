@@ -1,6 +1,6 @@
 // The numbers of symbols and variables.
 ghost use Rattle.std.specs.Prelude.{◌≡◌, ◌+◌, ◌<◌, ◌≤◌, List, length};
-ghost use Rattle.horn.specs.Clauses.{Variable as LineVariable, is_blank};
+ghost use Rattle.horn.specs.Clauses.{Variable as ClauseVariable, is_blank};
 ghost use Rattle.symbols.specs.Numbers.{number_in, names_of, known_variable, number_of, noted};
 ghost use Rattle.symbols.specs.Tables.{signature};
 
@@ -37,8 +37,8 @@ fn known_variable(variables: &SymbolTable, name: &[u8]) -> Option<u16>
 pub fn variable_number(variables: &mut SymbolTable, name: &[u8]) -> u8
     requires few { length (signature variables.old) < 128 }
     requires short { length name.now ≤ 31 }
-    ensures number { (V : List LineVariable) → signature variables.old ≡ names_of V → result ≡ number_of V name.now }
-    ensures noted { (V : List LineVariable) → signature variables.old ≡ names_of V → signature variables.new ≡ names_of (noted V name.now) }
+    ensures number { (V : List ClauseVariable) → signature variables.old ≡ names_of V → result ≡ number_of V name.now }
+    ensures noted { (V : List ClauseVariable) → signature variables.old ≡ names_of V → signature variables.new ≡ names_of (noted V name.now) }
     ensures more { length (signature variables.new) ≤ length (signature variables.old) + 1 }
 {
     if let Some(k) = known_variable(variables, name) {
