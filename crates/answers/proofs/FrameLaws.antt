@@ -1,6 +1,6 @@
 -- The stack of frames: owners get smaller towards the top, so there are no more frames than cells.
 use Rattle.std.proofs.Common.{◌≡◌, ℕ, suc, ◌+◌, ◌-◌, ◌<◌, ◌≤◌, Bool, true, false, cond, eqb, List, [], ◌∷◌, ◌++◌, length, sym, refl, ap, subst, arith}
-use Rattle.std.specs.List.{AllByRecursion as All}
+use Rattle.std.specs.List.{AllByRecursion}
 use Rattle.std.proofs.ByRecursion.{All-weaker, All-push}
 use Rattle.std.proofs.lemmas.List.{length_push}
 use Rattle.std.proofs.lemmas.Bool.{eqb-true, eqb-false}
@@ -17,11 +17,11 @@ pub record Fits (w : ℕ → ℕ) (n : ℕ) (f : Frame) : Type 0 where
 
 -- all owners are larger than m
 abbrev pub Above : (ℕ → ℕ) → ℕ → List Frame → Type 0
-Above w m fs = All (λ f. m < w f.owner) fs
+Above w m fs = AllByRecursion (λ f. m < w f.owner) fs
 
 abbrev pub Chain : (ℕ → ℕ) → ℕ → List Frame → Type 0
 Chain w n [] = Unit {0}
-Chain w n (f ∷ fs) = Fits w n f × All (λ g. w g.owner < w f.owner) fs × Chain w n fs
+Chain w n (f ∷ fs) = Fits w n f × AllByRecursion (λ g. w g.owner < w f.owner) fs × Chain w n fs
 
 -- the frame without its next argument
 abbrev pub onward : Frame → Frame
@@ -34,7 +34,7 @@ length-added f fs h = go (eqb f.left 0) refl
     go true e = absurd (omega (arith, eqb-true f.left 0 e))
     go false e = length_push fs f
 
-all_pop : (P : Frame → Type 0) (fs : List Frame) (f : Frame) → All P (fs ++ f ∷ []) → All P fs × P f
+all_pop : (P : Frame → Type 0) (fs : List Frame) (f : Frame) → AllByRecursion P (fs ++ f ∷ []) → AllByRecursion P fs × P f
 all_pop P [] f h = (tt, h.0)
 all_pop P (g ∷ fs) f h = let r = all_pop P fs f h.1 in ((h.0, r.0), r.1)
 
@@ -62,7 +62,7 @@ module _ (w : ℕ → ℕ) (n : ℕ) where
   length-owners [] = refl
   length-owners (f ∷ fs) = ap suc (length-owners fs)
 
-  free-owner : (o : ℕ) (fs : List Frame) → All (λ g. w g.owner < w o) fs → Free o (owners fs)
+  free-owner : (o : ℕ) (fs : List Frame) → AllByRecursion (λ g. w g.owner < w o) fs → Free o (owners fs)
   free-owner o [] h = tt
   free-owner o (g ∷ fs) h = ((λ e. let l = h.0 in omega (arith, ap w e)), free-owner o fs h.1)
 
@@ -70,7 +70,7 @@ module _ (w : ℕ → ℕ) (n : ℕ) where
   different [] h = tt
   different (f ∷ fs) h = (free-owner f.owner fs h.1, different fs h.2)
 
-  under : (fs : List Frame) → Chain w n fs → All (λ x. x < n) (owners fs)
+  under : (fs : List Frame) → Chain w n fs → AllByRecursion (λ x. x < n) (owners fs)
   under [] h = tt
   under (f ∷ fs) h = (h.0.owned, under fs h.2)
 

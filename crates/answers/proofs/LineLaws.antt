@@ -1,7 +1,7 @@
 -- The line written from left to right is the answer line.
 use Rattle.std.proofs.Common.{◌≡◌, ℕ, suc, Bool, true, false, cond, eqb, List, [], ◌∷◌, ◌++◌, map, decimal, sym, refl, ap, ◌∙◌, subst, ap₂}
 use lib.ListN.{length-map}
-use Rattle.std.specs.List.{AllByRecursion as All}
+use Rattle.std.specs.List.{AllByRecursion}
 use Rattle.std.proofs.ByRecursion.{All-map, All-weaker}
 use Rattle.std.proofs.lemmas.List.{append_assoc, append-nil}
 use Rattle.std.proofs.lemmas.Bool.{cond-true, eq-eqb}
@@ -75,7 +75,7 @@ module _ (ws : List ℕ) where
         ∙ written_is t us (wordss (evals ts names) W) (grown-trans vs (throughs (note eqb) ts vs) ws (throughs-grown ts vs) g)
 
   module _ (line : List ℕ) (ρ : Valuation) (θ : Values) where
-    told_is : (vs : List Variable) (us : List ℕ) → All (λ v. θ (named (name_of line v)) ≡ ρ v.cell) vs → Grown (throughs (note eqb) (values_of θ (map (name_of line) vs)) us) ws
+    told_is : (vs : List Variable) (us : List ℕ) → AllByRecursion (λ v. θ (named (name_of line v)) ≡ ρ v.cell) vs → Grown (throughs (note eqb) (values_of θ (map (name_of line) vs)) us) ws
         → told line ρ vs us ≡ tails (map field (wordss (shown (label_in ws) θ (map (name_of line) vs)) []))
     told_is [] us h g = refl
     told_is (v ∷ vs) us h g =
@@ -91,7 +91,7 @@ module _ (ws : List ℕ) where
         ∙ written_is t us W (grown-trans us' (throughs (note eqb) ts us') ws (throughs-grown ts us') g')
         ∙ ap (λ x. tails (map field (words (eval x names) W))) (sym h.0))
 
-line-is : (line : List ℕ) (ρ : Valuation) (θ : Values) (vs : List Variable) → All (λ v. θ (named (name_of line v)) ≡ ρ v.cell) vs → told_all line ρ vs ≡ line_of θ (map (name_of line) vs)
+line-is : (line : List ℕ) (ρ : Valuation) (θ : Values) (vs : List Variable) → AllByRecursion (λ v. θ (named (name_of line v)) ≡ ρ v.cell) vs → told_all line ρ vs ≡ line_of θ (map (name_of line) vs)
 line-is line ρ θ vs h =
     let ns = map (name_of line) vs in
     let us = unbound (values_of θ ns) in

@@ -1,6 +1,6 @@
 -- The query's variables in the heap, and when the heap holds an answer to the query.
 use Rattle.std.specs.Prelude.{◌≡◌, ℕ, ◌+◌, ◌<◌, ◌≤◌, List, map, length, take, drop}
-use Rattle.std.specs.List.{AllByRecursion as All}
+use Rattle.std.specs.List.{AllByRecursion}
 use Rattle.horn.specs.Terms.{Name}
 use Rattle.horn.specs.Clauses.{named, Query}
 use Rattle.horn.specs.Answers.{Values, names_of}
@@ -18,7 +18,7 @@ abbrev pub Inside : List ℕ → Heap → Variable → Type 0
 Inside line H v = (v.start + v.len ≤ length line) × (v.cell < length H)
 
 abbrev pub InsideAll : List ℕ → Heap → List Variable → Type 0
-InsideAll line H vs = All (Inside line H) vs
+InsideAll line H vs = AllByRecursion (Inside line H) vs
 
 -- every arity is one digit
 abbrev pub Digits : Heap → Type 0
@@ -29,4 +29,4 @@ pub record Shows (names : Naming) (H : Heap) (line : List ℕ) (vs : List Variab
   pub σ : Valuation
   pub general : MostGeneral names H σ
   pub called : map (name_of line) vs ≡ names_of q
-  pub valued : All (λ v. θ (named (name_of line v)) ≡ σ v.cell) vs
+  pub valued : AllByRecursion (λ v. θ (named (name_of line v)) ≡ σ v.cell) vs

@@ -1,6 +1,6 @@
 -- Laws of the way back.
 use Rattle.std.proofs.Common.{◌≡◌, ℕ, zero, suc, ◌<◌, ◌≤◌, Bool, true, false, cond, ltb, List, [], ◌∷◌, ◌++◌, map, length, take, drop, set, sym, refl, ap, ◌∙◌, subst, subst₂, append_assoc, append-nil, arith, length-append}
-use Rattle.std.specs.List.{AllByRecursion as All}
+use Rattle.std.specs.List.{AllByRecursion}
 use Rattle.std.proofs.lemmas.List.{length_push, take_all, take-take, drop_all, take_at, drop_at, drop-append-le}
 use Rattle.std.proofs.ByRecursion.{All-append}
 use Rattle.heap.specs.Limits.{cell_limit}
@@ -74,7 +74,7 @@ grew-kept {H} {H'} {t} {t'} k = record {
   longer = k.longer;
   back = ap (take (length H)) k.back ∙ take_all (length H) H (omega arith);
   more = omega (arith, k.long);
-  inside = subst (λ n. All (λ b. b.at < n) k.added) (sym k.long) k.inside;
+  inside = subst (λ n. AllByRecursion (λ b. b.at < n) k.added) (sym k.long) k.inside;
 }
 
 pub grew_trans : {H H' H'' : Heap} {t t' t'' : List Bound} → Grew H t H' t' → Grew H' t' H'' t'' → Grew H t H'' t''

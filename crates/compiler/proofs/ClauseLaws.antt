@@ -8,12 +8,12 @@ use Rattle.horn.specs.Notation.{Word, word_for, wordss}
 use Rattle.horn.proofs.JoinLaws.{front-join, back-join}
 use Rattle.code.specs.Meaning.{Terming, Denotes}
 use Rattle.code.specs.declared.instructions.Instruction.{Instruction}
-use Rattle.symbols.specs.Symbols.{Signature, arity_at, symbols_of}
-use Rattle.symbols.specs.Numbers.{number_in, blanks_in, variables_after}
+use Rattle.symbol_table.specs.Symbols.{Signature, arity_at, symbols_of}
+use Rattle.symbol_table.specs.Numbers.{number_in, blanks_in, variables_after}
 use Rattle.compiler.specs.Flatten.{items, predicates}
 use Rattle.compiler.specs.Reading.{reads, Whole, heads, arities, Carries, hefts, weight}
 use Rattle.compiler.specs.Lines.{Numbered, Used, Known, variables}
-use Rattle.symbols.proofs.NumberLaws.{number_is, at, Apart, apart_none, Begins, begins-all, begins-then, place, placed}
+use Rattle.symbol_table.proofs.NumberLaws.{number_is, at, Apart, apart_none, Begins, begins-all, begins-then, place, placed}
 use Rattle.compiler.proofs.FlattenLaws.{note_ts, item_ts, num_ts, count-num, KnowsTs, items-terms, after-terms, predicates-terms, reads-terms, whole-terms, Sounds, sounds-known, sounds-append, sounds-terms, grown-terms, same-terms, numbered-append, numbered-terms, Has, has_left, has_right, used-by, has-terms, variables-append, varied-terms, hefts-append, hefts-terms, count-join}
 use Rattle.compiler.specs.declared.items.Item.{Item}
 

@@ -11,8 +11,8 @@ use Rattle.lines.specs.Grammar.{Good, Goods}
 use Rattle.lines.specs.Clauses.{clause_from}
 use Rattle.code.specs.Meaning.{Denotes}
 use Rattle.code.specs.declared.instructions.Instruction.{Instruction}
-use Rattle.symbols.specs.Symbols.{Signature, arity_at, symbols_of}
-use Rattle.symbols.specs.Numbers.{number_in, Covers, Short, Shorts, variables_after}
+use Rattle.symbol_table.specs.Symbols.{Signature, arity_at, symbols_of}
+use Rattle.symbol_table.specs.Numbers.{number_in, Covers, Short, Shorts, variables_after}
 use Rattle.compiler.specs.Flatten.{items, predicates}
 use Rattle.compiler.specs.Reading.{reads, Whole, arities, Carries, weight}
 use Rattle.compiler.specs.Lines.{Numbered, Used, Known, variables}

@@ -2,7 +2,7 @@
 use Rattle.std.proofs.Common.{◌≡◌, ℕ, suc, ◌+◌, ◌<◌, Bool, cond, List, [], ◌∷◌, ◌++◌, map, length, sym, refl, ap, ◌∙◌, subst, ap₂, append_assoc, append-nil, arith, length-append, eq-eqb, ne_eqb}
 use mathlib.Core.List.{map-append}
 use Rattle.horn.specs.Terms.{Term, Terms, var, node, nil, cons, join}
-use Rattle.symbols.specs.Symbols.{Signature, name_at, arity_at, symbols_of}
+use Rattle.symbol_table.specs.Symbols.{Signature, name_at, arity_at, symbols_of}
 use Rattle.compiler.specs.Terms.{hop}
 use Rattle.code.specs.Meaning.{Terming, span}
 use Rattle.code.specs.Meaning.{given, parts, Says, goals, update}

@@ -7,12 +7,12 @@ use Rattle.horn.specs.Weights.{own, weigh, weighs}
 use Rattle.horn.specs.Notation.{Word, word_for, words, wordss}
 use Rattle.horn.proofs.JoinLaws.{front-join, back-join}
 use Rattle.code.specs.Meaning.{Terming}
-use Rattle.symbols.specs.Symbols.{Signature, arity_at}
-use Rattle.symbols.specs.Numbers.{number_in, Knows, Covers, blanks_in, number_of, noted, variables_after}
+use Rattle.symbol_table.specs.Symbols.{Signature, arity_at}
+use Rattle.symbol_table.specs.Numbers.{number_in, Knows, Covers, blanks_in, number_of, noted, variables_after}
 use Rattle.compiler.specs.Flatten.{items, predicates}
 use Rattle.compiler.specs.Reading.{reads, Whole, heft, hefts}
 use Rattle.compiler.specs.Lines.{Numbered, Sound, Known, Used, variables}
-use Rattle.symbols.proofs.NumberLaws.{number_is, at, Apart, Begins, begins-all, begins-then, noting}
+use Rattle.symbol_table.proofs.NumberLaws.{number_is, at, Apart, Begins, begins-all, begins-then, noting}
 use Rattle.compiler.specs.declared.items.Item.{Item}
 use Rattle.compiler.specs.declared.items.Item.TheVariants.{Atom, Structure, Variable as Var}
 

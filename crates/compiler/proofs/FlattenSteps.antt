@@ -2,8 +2,8 @@
 use Rattle.std.proofs.Common.{◌≡◌, ℕ, suc, ◌+◌, ◌-◌, ◌<◌, List, [], ◌∷◌, ◌++◌, length, take, set, sym, refl, ap, ◌∙◌, subst, ap₂, append_assoc, append-nil, add-one, arith, length-append, take-suc-set}
 use Rattle.horn.specs.Clauses.{Variable}
 use Rattle.horn.specs.Notation.{Word, arity}
-use Rattle.symbols.specs.Symbols.{Signature}
-use Rattle.symbols.specs.Numbers.{Knows, Covers, Short, Shorts, names_of, noted_by, variables_after}
+use Rattle.symbol_table.specs.Symbols.{Signature}
+use Rattle.symbol_table.specs.Numbers.{Knows, Covers, Short, Shorts, names_of, noted_by, variables_after}
 use Rattle.compiler.specs.Flatten.{item_for, predicate_for, items, predicates}
 use Rattle.compiler.specs.declared.items.Item.{Item}
 

@@ -1,7 +1,7 @@
 -- Words and the slots that they fill.
 use Rattle.std.proofs.Common.{◌≡◌, ℕ, suc, ◌+◌, ◌<◌, ◌≤◌, Bool, true, List, [], ◌∷◌, ◌++◌, map, length, set, sym, refl, ap, ◌∙◌, subst, ap₂, subst₂, append_assoc, add-one, arith}
 use Rattle.horn.specs.Terms.{nil}
-use Rattle.symbols.specs.Symbols.{Signature, arity_at}
+use Rattle.symbol_table.specs.Symbols.{Signature, arity_at}
 use Rattle.compiler.specs.Terms.{hop}
 use Rattle.compiler.specs.Places.{Plan, values, Built, width, wide, gain}
 use Rattle.compiler.specs.Filling.{Empty, Filled, Fills, still, then, Marked, MarkedAt, Off, OffAt}

@@ -5,7 +5,7 @@ use Rattle.code.specs.declared.instructions.Operand.{Operand}
 use Rattle.code.specs.declared.instructions.Operand.TheVariants.{Fresh, Known, Constant}
 use Rattle.code.specs.declared.instructions.Instruction.{Instruction}
 use Rattle.code.specs.declared.instructions.Instruction.TheVariants.{Get, GetStructure, Unify, Put, PutStructure, Set, Call, Proceed}
-use Rattle.symbols.specs.Symbols.{Signature}
+use Rattle.symbol_table.specs.Symbols.{Signature}
 use Rattle.compiler.specs.Rows.{row}
 use Rattle.compiler.specs.Scripts.{Phase, start, top, inside, between, goal, over, Script, stay, next, allocates, gets, takes, turns, begins, builds, calls, ends}
 use Rattle.compiler.specs.declared.rows.Role.{Role}

@@ -1,7 +1,7 @@
 -- What the slots give each place is the instance of the term there.
 use Rattle.std.proofs.Common.{◌≡◌, ℕ, zero, suc, ◌+◌, ◌<◌, ◌≤◌, sym, refl, ap, ◌∙◌, ap₂, arith}
 use Rattle.horn.specs.Terms.{Terms, node, cons, eval, evals}
-use Rattle.symbols.specs.Symbols.{Signature, name_at}
+use Rattle.symbol_table.specs.Symbols.{Signature, name_at}
 use Rattle.compiler.specs.Terms.{along}
 use Rattle.code.specs.Meaning.{Terming}
 use Rattle.compiler.specs.Places.{Plan, shaped, worth, Built, Run, Ends, value, values, wide, BuiltAt}

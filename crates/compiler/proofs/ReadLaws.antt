@@ -3,7 +3,7 @@ use Rattle.std.proofs.Common.{◌≡◌, ℕ, zero, suc, ◌+◌, ◌-◌, ◌<�
 use native.Mathlib.Decide.{dec_lt}
 use Rattle.std.proofs.lemmas.List.{drop_more, drop_all}
 use Rattle.horn.specs.Terms.{Terms, var, node, nil, cons, eval, evals, count, front, back, join}
-use Rattle.symbols.specs.Symbols.{Signature, name_at, arity_at, symbols_of}
+use Rattle.symbol_table.specs.Symbols.{Signature, name_at, arity_at, symbols_of}
 use Rattle.compiler.specs.Terms.{first, along, hop}
 use Rattle.code.specs.Meaning.{Terming, span}
 use Rattle.code.specs.Meaning.{Says, goals}

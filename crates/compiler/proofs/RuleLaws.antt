@@ -16,7 +16,7 @@ use Rattle.code.specs.WellFormed.{Kept}
 use Rattle.code.proofs.WordLaws.{opcode-packed, first-packed, second-packed}
 use Rattle.code.proofs.RangeLaws.{all-inside}
 use Rattle.code.proofs.SlotLaws.{slots-are}
-use Rattle.symbols.specs.Symbols.{Signature, arity_at, arities_of}
+use Rattle.symbol_table.specs.Symbols.{Signature, arity_at, arities_of}
 use Rattle.compiler.specs.Lawful.{Lawful, Lawfuls}
 use Rattle.compiler.specs.Reading.{weight, Carries}
 use Rattle.compiler.specs.Output.{Onto}

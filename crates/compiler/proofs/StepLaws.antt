@@ -4,7 +4,7 @@ use mathlib.Core.List.{map-append, append_cancel_left}
 use native.Mathlib.Decide.{ℕ_discrete, dec_lt}
 use Rattle.std.proofs.lemmas.List.{take_more, drop_more, take_all, drop_all, get_or-replicate}
 use Rattle.horn.specs.Terms.{var, node, nil, cons, count, join}
-use Rattle.symbols.specs.Symbols.{Signature, name_at, arity_at, symbols_of}
+use Rattle.symbol_table.specs.Symbols.{Signature, name_at, arity_at, symbols_of}
 use Rattle.compiler.specs.Terms.{hop}
 use Rattle.code.specs.Meaning.{Terming, span}
 use Rattle.compiler.specs.Reading.{arities, reads, Carries, hefts, weight}
@@ -27,7 +27,7 @@ use Rattle.compiler.specs.declared.items.Item.TheVariants.{Atom, Structure, Vari
 use Rattle.code.specs.declared.instructions.Instruction.{Instruction}
 use Rattle.compiler.specs.declared.flat.Flat.{Flat}
 use Rattle.compiler.specs.Tables.{Ready}
-use Rattle.symbols.specs.Tables.{signature}
+use Rattle.symbol_table.specs.Tables.{signature}
 use Rattle.compiler.specs.Lawful.{Lawfuls}
 use Rattle.code.specs.Tests.{total}
 use Rattle.code.specs.Instructions.{within}

@@ -2,7 +2,7 @@
 use Rattle.std.proofs.Common.{◌≡◌, ℕ, zero, suc, ◌+◌, ◌-◌, ◌<◌, ◌≤◌, ◌≢◌, List, [], ◌∷◌, length, get_or, set, sym, refl, ap, ◌∙◌, subst, ap₂, add-one, arith, get_or-set_other, get_or-set_same}
 use native.Mathlib.Decide.{ℕ_discrete}
 use Rattle.horn.specs.Terms.{count}
-use Rattle.symbols.specs.Symbols.{Signature, arity_at}
+use Rattle.symbol_table.specs.Symbols.{Signature, arity_at}
 use Rattle.compiler.specs.Terms.{hop}
 use Rattle.compiler.specs.Reading.{Whole}
 use Rattle.compiler.specs.Places.{Plan, width, Run, Ends}

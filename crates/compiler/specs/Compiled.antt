@@ -6,7 +6,7 @@ use Rattle.lines.specs.Clauses.{clause_from}
 use Rattle.code.specs.Words.{decode}
 use Rattle.code.specs.Meaning.{Denotes}
 use Rattle.code.specs.WellFormed.{Kept}
-use Rattle.symbols.specs.Symbols.{Signature, symbols_of, arities_of}
+use Rattle.symbol_table.specs.Symbols.{Signature, symbols_of, arities_of}
 use Rattle.compiler.specs.declared.compiled.Compiled.{Compiled}
 
 -- the clause's code stands from `at` on: two words more than it weighs, denoting the clause, with rules V1 to V7 kept for the row;

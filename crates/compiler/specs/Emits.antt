@@ -1,7 +1,7 @@
 -- What words say in front of any others.
 use Rattle.std.specs.Prelude.{◌≡◌, ℕ, suc, ◌<◌, Bool, List, [], ◌∷◌, ◌++◌, map, length, ◌≢◌}
 use Rattle.horn.specs.Terms.{Terms, var, nil, join}
-use Rattle.symbols.specs.Symbols.{Signature, symbols_of}
+use Rattle.symbol_table.specs.Symbols.{Signature, symbols_of}
 use Rattle.compiler.specs.Terms.{hop}
 use Rattle.code.specs.Meaning.{Terming}
 use Rattle.code.specs.Meaning.{given, Says, goals}

@@ -2,8 +2,8 @@
 use Rattle.std.specs.Prelude.{ℕ, zero, suc, ◌+◌, List, [], ◌∷◌}
 use Rattle.horn.specs.Clauses.{Variable}
 use Rattle.horn.specs.Notation.{Word, name, structure, variable, arity}
-use Rattle.symbols.specs.Symbols.{Signature}
-use Rattle.symbols.specs.Numbers.{number_in, number_of, noted_by}
+use Rattle.symbol_table.specs.Symbols.{Signature}
+use Rattle.symbol_table.specs.Numbers.{number_in, number_of, noted_by}
 use Rattle.compiler.specs.declared.items.Item.{Item}
 use Rattle.compiler.specs.declared.items.Item.TheVariants.{Atom, Structure, Variable as Numbered}
 

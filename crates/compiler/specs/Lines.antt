@@ -1,7 +1,7 @@
 -- The items of a clause by their places.
 use Rattle.std.specs.Prelude.{◌≡◌, ℕ, suc, ◌+◌, ◌<◌, List, [], ◌∷◌, length, take, slice_index, slice_index_or}
 use Rattle.horn.specs.Terms.{Terms, node, nil, cons}
-use Rattle.symbols.specs.Symbols.{Signature, name_at, arity_at}
+use Rattle.symbol_table.specs.Symbols.{Signature, name_at, arity_at}
 use Rattle.compiler.specs.Terms.{hop}
 use Rattle.code.specs.Meaning.{Terming}
 use Rattle.compiler.specs.Places.{Plan, values}

@@ -1,6 +1,6 @@
 -- Each slot is set once, and read only afterwards.
 use Rattle.std.specs.Prelude.{ℕ, zero, suc, ◌<◌, Bool, true, List, [], ◌∷◌, length, slice_set}
-use Rattle.symbols.specs.Symbols.{Signature, arity_at}
+use Rattle.symbol_table.specs.Symbols.{Signature, arity_at}
 use Rattle.compiler.specs.Filling.{Empty, Filled, Fits, fill}
 use Rattle.code.specs.declared.instructions.Instruction.{Instruction}
 use Rattle.code.specs.declared.instructions.Instruction.TheVariants.{Allocate, Get, GetStructure, Unify, Put, PutStructure, Set, Call, Proceed}

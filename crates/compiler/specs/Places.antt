@@ -1,7 +1,7 @@
 -- Terms by their places in a line.
 use Rattle.std.specs.Prelude.{◌≡◌, ℕ, zero, suc, ◌+◌, ◌<◌, ◌≤◌}
 use Rattle.horn.specs.Terms.{Term, Terms, var, node, nil}
-use Rattle.symbols.specs.Symbols.{Signature, name_at, arity_at}
+use Rattle.symbol_table.specs.Symbols.{Signature, name_at, arity_at}
 use Rattle.compiler.specs.Terms.{along}
 use Rattle.code.specs.Meaning.{Terming}
 use Rattle.compiler.specs.declared.items.Item.{Item}

@@ -1,7 +1,7 @@
 -- The clause that items spell, its terms in prefix order.
 use Rattle.std.specs.Prelude.{◌≡◌, ℕ, ◌+◌, ◌≤◌, List, [], ◌∷◌, length}
 use Rattle.horn.specs.Terms.{Terms, var, node, nil, cons, count, front, back, evals}
-use Rattle.symbols.specs.Symbols.{Signature, name_at, arity_at, symbols_of}
+use Rattle.symbol_table.specs.Symbols.{Signature, name_at, arity_at, symbols_of}
 use Rattle.code.specs.Meaning.{Terming, Runs}
 use Rattle.code.specs.declared.instructions.Instruction.{Instruction}
 use Rattle.compiler.specs.declared.items.Item.{Item}

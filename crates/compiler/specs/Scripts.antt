@@ -1,6 +1,6 @@
 -- The order of instructions in a clause.
 use Rattle.std.specs.Prelude.{◌≡◌, ℕ, List, [], ◌∷◌, ◌++◌, length}
-use Rattle.symbols.specs.Symbols.{Signature, arity_at}
+use Rattle.symbol_table.specs.Symbols.{Signature, arity_at}
 use Rattle.compiler.specs.Rows.{row}
 use Rattle.code.specs.declared.instructions.Operand.{Operand}
 use Rattle.code.specs.declared.instructions.Instruction.{Instruction}

@@ -1,7 +1,7 @@
 -- How far the code of a clause has come.
 use Rattle.std.specs.Prelude.{◌≡◌, ℕ, suc, ◌+◌, ◌<◌, ◌≤◌, Bool, ◌⊎◌, List, [], ◌∷◌, length, take}
 use Rattle.horn.specs.Terms.{node, nil, cons}
-use Rattle.symbols.specs.Symbols.{name_at, arity_at}
+use Rattle.symbol_table.specs.Symbols.{name_at, arity_at}
 use Rattle.compiler.specs.Terms.{hop}
 use Rattle.code.specs.Meaning.{Terming, span}
 use Rattle.compiler.specs.Places.{Plan, Run, values, BuiltAt, before}

@@ -1,6 +1,6 @@
 -- What the compiler's tables stand for.
 use Rattle.std.specs.Prelude.{◌≡◌, ℕ, ◌<◌, List, length, ◌≢◌, slice_index, slice_index_or}
-use Rattle.symbols.specs.Tables.{signature}
+use Rattle.symbol_table.specs.Tables.{signature}
 use Rattle.compiler.specs.Places.{Plan, Ends}
 use Rattle.compiler.specs.Lines.{plan, Numbered, Known}
 use Rattle.compiler.specs.Filling.{OffAt}

@@ -3,7 +3,7 @@ use Rattle.std.specs.Prelude.{◌≡◌, ℕ, ◌+◌, List, ◌++◌, map, leng
 use Rattle.code.specs.Words.{decode}
 use Rattle.code.specs.Rules.{key_of}
 use Rattle.code.specs.WellFormed.{Kept}
-use Rattle.symbols.specs.Symbols.{Signature, arities_of}
+use Rattle.symbol_table.specs.Symbols.{Signature, arities_of}
 use Rattle.compiler.specs.Reading.{weight, Carries}
 use Rattle.compiler.specs.Output.{Onto}
 use Rattle.compiler.specs.declared.items.Item.{Item}

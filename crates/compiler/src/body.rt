@@ -1,6 +1,6 @@
 // The words that put a clause's goals.
 ghost use Rattle.std.specs.Prelude.{◌≡◌, ◌+◌, ◌-◌, ◌<◌, ◌≤◌, length, take};
-ghost use Rattle.symbols.specs.Symbols.{arity_at};
+ghost use Rattle.symbol_table.specs.Symbols.{arity_at};
 ghost use Rattle.compiler.specs.Places.{Run, gain, before};
 ghost use Rattle.compiler.specs.Filling.{Ahead};
 ghost use Rattle.compiler.specs.Emits.{Struck};
@@ -8,7 +8,7 @@ ghost use Rattle.compiler.specs.Scripts.{goal};
 ghost use Rattle.compiler.specs.Steps.{Goal};
 ghost use Rattle.compiler.specs.Output.{Onto};
 ghost use Rattle.compiler.specs.Tables.{laid, Ready};
-ghost use Rattle.symbols.specs.Tables.{signature};
+ghost use Rattle.symbol_table.specs.Tables.{signature};
 
 use crate::flat::Flat;
 use crate::items::Item;

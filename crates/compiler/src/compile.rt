@@ -4,8 +4,8 @@ ghost use Rattle.lines.specs.declared.kind.Kind.TheVariants.{Clause as ClauseLin
 ghost use Rattle.lines.specs.Grammar.{Proper};
 ghost use Rattle.lines.specs.Said.{terms_of, words_left, Counted};
 ghost use Rattle.compiler.specs.Compiled.{CodeOf};
-ghost use Rattle.symbols.specs.Numbers.{Covers};
-ghost use Rattle.symbols.specs.Tables.{signature};
+ghost use Rattle.symbol_table.specs.Numbers.{Covers};
+ghost use Rattle.symbol_table.specs.Tables.{signature};
 
 use crate::compiled::Compiled;
 use crate::flatten::flatten;
@@ -13,7 +13,7 @@ use crate::items::Item;
 use crate::writer::write_clause;
 use code::key_of;
 use lines::Line;
-use symbols::SymbolTable;
+use symbol_table::SymbolTable;
 
 // The same as `compile_clause`, over areas for the variables, the predicates and the items.
 fn compile_over(

@@ -1,6 +1,6 @@
 // A clause's items with what the compiler found out about them.
 use crate::items::Item;
-use symbols::SymbolTable;
+use symbol_table::SymbolTable;
 
 // The items, the place after each one's term, and the slot of each structure.
 #[derive(Clone, Copy)]

@@ -4,15 +4,15 @@ ghost use Rattle.horn.specs.Clauses.{Variable as ClauseVariable, is_blank};
 ghost use Rattle.horn.specs.Notation.{arity};
 ghost use Rattle.lines.specs.Tokens.{word};
 ghost use Rattle.lines.specs.Said.{words_left};
-ghost use Rattle.symbols.specs.Numbers.{number_in, Knows, Covers, names_of, known_variable, number_of, noted, noted_by, Shorts, Short};
+ghost use Rattle.symbol_table.specs.Numbers.{number_in, Knows, Covers, names_of, known_variable, number_of, noted, noted_by, Shorts, Short};
 ghost use Rattle.compiler.specs.Flatten.{item_for, predicate_for};
 ghost use Rattle.compiler.specs.Flatten.{items as items_of, predicates as predicates_of};
-ghost use Rattle.symbols.specs.Numbers.{variables_after};
-ghost use Rattle.symbols.specs.Tables.{signature};
+ghost use Rattle.symbol_table.specs.Numbers.{variables_after};
+ghost use Rattle.symbol_table.specs.Tables.{signature};
 
 use crate::items::Item;
 use lines::{Fields, Token};
-use symbols::{SymbolTable, symbol_number, variable_number};
+use symbol_table::{SymbolTable, symbol_number, variable_number};
 
 // How many terms follow a token as its own.
 fn arity_of(token: Token<'_>) -> usize

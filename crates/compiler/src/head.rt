@@ -1,6 +1,6 @@
 // The words that take a clause's head apart.
 ghost use Rattle.std.specs.Prelude.{◌≡◌, ◌+◌, ◌<◌, ◌≤◌, length, take};
-ghost use Rattle.symbols.specs.Symbols.{arity_at};
+ghost use Rattle.symbol_table.specs.Symbols.{arity_at};
 ghost use Rattle.compiler.specs.Places.{Run, gain, before};
 ghost use Rattle.compiler.specs.Filling.{MarkedAt, Ahead};
 ghost use Rattle.compiler.specs.Emits.{Struck};

@@ -1,9 +1,9 @@
 // The items of a clause: the fields of its arguments, in prefix order.
 ghost use Rattle.std.specs.Prelude.{◌≡◌};
 ghost use Rattle.compiler.specs.Places.{width, single};
-ghost use Rattle.symbols.specs.Tables.{signature};
+ghost use Rattle.symbol_table.specs.Tables.{signature};
 
-use symbols::SymbolTable;
+use symbol_table::SymbolTable;
 
 // A constant's symbol, a structure's symbol, whose terms follow it, or a variable's number.
 #[derive(Clone, Copy)]

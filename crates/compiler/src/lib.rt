@@ -16,4 +16,4 @@ mod writer;
 
 pub use compile::compile_clause;
 pub use compiled::Compiled;
-pub use symbols::SymbolTable;
+pub use symbol_table::SymbolTable;

@@ -5,10 +5,10 @@ ghost use Rattle.compiler.specs.Places.{Run, Ends};
 ghost use Rattle.compiler.specs.Reading.{Whole};
 ghost use Rattle.compiler.specs.Lines.{plan};
 ghost use Rattle.compiler.specs.Tables.{table};
-ghost use Rattle.symbols.specs.Tables.{signature};
+ghost use Rattle.symbol_table.specs.Tables.{signature};
 
 use crate::items::{Item, width_of};
-use symbols::SymbolTable;
+use symbol_table::SymbolTable;
 
 // The place after the `n` terms from `from` on.
 pub(crate) fn skip(after: &[usize], from: usize, n: u8) -> usize

@@ -1,7 +1,7 @@
 // The whole code of a clause.
 ghost use Rattle.std.specs.Prelude.{◌≡◌, ℕ, ◌+◌, ◌<◌, ◌≤◌, false, length, take, replicate, slice_index};
 ghost use Rattle.horn.specs.Terms.{count};
-ghost use Rattle.symbols.specs.Symbols.{arity_at};
+ghost use Rattle.symbol_table.specs.Symbols.{arity_at};
 ghost use Rattle.compiler.specs.Places.{before};
 ghost use Rattle.compiler.specs.Reading.{reads, arities, weight, Whole};
 ghost use Rattle.compiler.specs.Lines.{Known, Used, Numbered, variables};
@@ -10,7 +10,7 @@ ghost use Rattle.compiler.specs.Filling.{Ahead};
 ghost use Rattle.compiler.specs.Steps.{Written};
 ghost use Rattle.compiler.specs.Output.{Onto};
 ghost use Rattle.compiler.specs.Tables.{laid, Ready};
-ghost use Rattle.symbols.specs.Tables.{signature};
+ghost use Rattle.symbol_table.specs.Tables.{signature};
 
 use crate::body::add_goal;
 use crate::flat::Flat;
@@ -20,7 +20,7 @@ use crate::output::push;
 use crate::places::{find_places, skip};
 use crate::slots::number_slots;
 use code::Instruction;
-use symbols::SymbolTable;
+use symbol_table::SymbolTable;
 
 // Writes the words between the first and the last, those of the head and of the goals, and answers the place after them.
 fn write_words(

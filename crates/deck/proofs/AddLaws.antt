@@ -12,11 +12,11 @@ use Rattle.lines.specs.declared.faults.CallFault.TheVariants.{Line, Limit}
 use Rattle.lines.specs.Lines.{then}
 use Rattle.lines.specs.Grammar.{Proper}
 use Rattle.lines.specs.Clauses.{clause_from, read_clause, SpellsClause, OneReading}
-use Rattle.symbols.specs.Symbols.{Signature}
-use Rattle.symbols.specs.Numbers.{note_words}
-use Rattle.symbols.specs.Tables.{up_to}
-use Rattle.symbols.proofs.NameLaws.{kept-before, up_to-same}
-use Rattle.symbols.specs.Noting.{Begins}
+use Rattle.symbol_table.specs.Symbols.{Signature}
+use Rattle.symbol_table.specs.Numbers.{note_words}
+use Rattle.symbol_table.specs.Tables.{up_to}
+use Rattle.symbol_table.proofs.NameLaws.{kept-before, up_to-same}
+use Rattle.symbol_table.specs.Noting.{Begins}
 use Rattle.deck.specs.Decks.{Contents, words_in, extended, passed, within, adding}
 use Rattle.deck.specs.Held.{line_in}
 

@@ -8,8 +8,8 @@ use Rattle.lines.specs.declared.faults.CallFault.{CallFault}
 use Rattle.lines.specs.declared.faults.CallFault.TheVariants.{Line, Limit}
 use Rattle.lines.specs.Lines.{then}
 use Rattle.lines.specs.Clauses.{read_clause}
-use Rattle.symbols.specs.Symbols.{Signature}
-use Rattle.symbols.specs.Numbers.{note_words}
+use Rattle.symbol_table.specs.Symbols.{Signature}
+use Rattle.symbol_table.specs.Numbers.{note_words}
 
 pub record Contents : Type 0 where
   pub lines : List (List ℕ)

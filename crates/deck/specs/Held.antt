@@ -1,6 +1,6 @@
 -- What a deck holds.
 use Rattle.std.specs.Prelude.{ℕ, ◌*◌, List, take, drop, slice_index}
-use Rattle.symbols.specs.Tables.{up_to, signature}
+use Rattle.symbol_table.specs.Tables.{up_to, signature}
 use Rattle.deck.specs.declared.state.Deck.{Deck}
 use Rattle.deck.specs.Decks.{Contents}
 

@@ -1,7 +1,7 @@
 // The deck's memory.
 ghost use Rattle.std.specs.Prelude.{ℕ, ◌≤◌, slice_index};
 
-use symbols::SymbolTable;
+use symbol_table::SymbolTable;
 
 // The lines that were taken, each in 512 bytes of its own, their symbols, and the words of their code.
 #[derive(Drop)]

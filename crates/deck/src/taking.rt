@@ -5,7 +5,7 @@ ghost use Rattle.deck.specs.Held.{contents};
 
 use crate::state::Deck;
 use lines::{CallFault, read_clause};
-use symbols::{SymbolTable, note_symbols};
+use symbol_table::{SymbolTable, note_symbols};
 
 // The clauses and the code words of a deck, at most.
 const CLAUSE_LIMIT: usize = 256;

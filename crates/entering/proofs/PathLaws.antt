@@ -1,6 +1,6 @@
 -- From entry to paths.
 use Rattle.std.proofs.Common.{◌≡◌, ℕ, zero, suc, ◌<◌, List, [], ◌∷◌, ◌++◌, length, Some, None, sym, refl, ap, ◌∙◌, subst, ap₂, arith}
-use Rattle.std.specs.List.{AllByRecursion as All}
+use Rattle.std.specs.List.{AllByRecursion}
 use Rattle.horn.specs.Terms.{Terms, node, nil, cons, join, count}
 use Rattle.horn.specs.Paths.{Path}
 use Rattle.horn.specs.Instances.{Rule, no_rule, rule_at, Leads}
@@ -18,12 +18,12 @@ use Rattle.entering.specs.Paths.{Coded, coded_at, code_rule, code_rules, terms, 
 use Rattle.entering.proofs.StepLaws.{vals-same, vals-append}
 use Rattle.entering.proofs.ReadyLaws.{span-is}
 
-terms-same : (Q : List ℕ) (n : ℕ) (ρ τ : Valuation) → All (λ i. i < n) Q → Same n ρ τ → terms ρ Q ≡ terms τ Q
+terms-same : (Q : List ℕ) (n : ℕ) (ρ τ : Valuation) → AllByRecursion (λ i. i < n) Q → Same n ρ τ → terms ρ Q ≡ terms τ Q
 terms-same [] n ρ τ h same = refl
 terms-same (i ∷ Q) n ρ τ h same = ap₂ cons (same i h.0) (terms-same Q n ρ τ h.1 same)
 
 module _ (s : Symbols) (table : List ℕ) (program : List Rule) (asks : Terms ℕ → Terms ℕ → Type 0) (path : Path) (H : Heap) (Q : List ℕ) (g : Goal) (G : List Goal)
-    (vars : All (λ i. i < length H) Q) (goods : All (Good table (length H)) (g ∷ G)) (st : Stores s program asks path H Q (g ∷ G)) (c : ℕ) where
+    (vars : AllByRecursion (λ i. i < length H) Q) (goods : AllByRecursion (Good table (length H)) (g ∷ G)) (st : Stores s program asks path H Q (g ∷ G)) (c : ℕ) where
   -- the rule c is that of some code, with the goal's name
   module _ (p : ℕ) (code : List Instruction) (rule : rule_at program c ≡ code_rule s (record { predicate = p; code = code })) where
     -- an instance of the longer path, as a solution

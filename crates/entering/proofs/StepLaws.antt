@@ -1,7 +1,7 @@
 -- The instructions, one by one.
 use Rattle.std.proofs.Common.{◌≡◌, ℕ, ◌+◌, ◌-◌, ◌<◌, ◌≤◌, cond, List, [], ◌∷◌, ◌++◌, length, get_or, drop, set, sym, refl, ap, ◌∙◌, subst, ap₂, inl, inr, arith, length-set, get_or-set_other, get_or-set_same}
 use native.Mathlib.Decide.{ℕ_discrete}
-use Rattle.std.specs.List.{AllByRecursion as All}
+use Rattle.std.specs.List.{AllByRecursion}
 use Rattle.std.proofs.lemmas.List.{length_push}
 use Rattle.std.proofs.ByRecursion.{All-append, All-weaker}
 use Rattle.std.proofs.lemmas.Bool.{eq-eqb, ne_eqb}
@@ -26,7 +26,7 @@ use Rattle.entering.proofs.ReadyLaws.{span-is, parts-span, says-drop, says-undro
 pub worth-same : (s : Symbols) (g : Goal) (n : ℕ) (ρ τ : Valuation) → ((k : ℕ) → k < g.arity → g.first + k < n) → Same n ρ τ → worth s ρ g ≡ worth s τ g
 worth-same s g n ρ τ held same = ap (node (s.name g.symbol)) (span_ext ρ τ g.first g.first g.arity (λ k l. same (g.first + k) (held k l)))
 
-pub vals-same : (s : Symbols) (table : List ℕ) (G : List Goal) (n : ℕ) (ρ τ : Valuation) → All (Good table n) G → Same n ρ τ → vals s ρ G ≡ vals s τ G
+pub vals-same : (s : Symbols) (table : List ℕ) (G : List Goal) (n : ℕ) (ρ τ : Valuation) → AllByRecursion (Good table n) G → Same n ρ τ → vals s ρ G ≡ vals s τ G
 vals-same s table [] n ρ τ good same = refl
 vals-same s table (g ∷ G) n ρ τ good same = ap₂ cons (worth-same s g n ρ τ good.0.held same) (vals-same s table G n ρ τ good.1 same)
 
@@ -37,7 +37,7 @@ vals-append s ρ (g ∷ G) B = ap (cons (worth s ρ g)) (vals-append s ρ G B)
 pub good_more : (table : List ℕ) (n m : ℕ) (g : Goal) → n ≤ m → Good table n g → Good table m g
 good_more table n m g le h = record { known = h.known; size = h.size; held = λ k l. let w = h.held k l in omega arith }
 
-pub goods-more : (table : List ℕ) (n m : ℕ) (G : List Goal) → n ≤ m → All (Good table n) G → All (Good table m) G
+pub goods-more : (table : List ℕ) (n m : ℕ) (G : List Goal) → n ≤ m → AllByRecursion (Good table n) G → AllByRecursion (Good table m) G
 goods-more table n m G le h = All-weaker (Good table n) (Good table m) (λ g p. good_more table n m g le p) G h
 
 pub steps-none : (k : Setting) (m : State) → Steps k m m

@@ -1,6 +1,6 @@
 -- Cells that store a path: they have just the terms that its instances give.
 use Rattle.std.specs.Prelude.{◌≡◌, ℕ, zero, suc, ◌-◌, ◌<◌, List, [], ◌∷◌, ◌++◌, map, length, Some, None, Option, ◌≢◌}
-use Rattle.std.specs.List.{AllByRecursion as All}
+use Rattle.std.specs.List.{AllByRecursion}
 use Rattle.horn.specs.Terms.{Term, Terms, nil, cons, evals}
 use Rattle.horn.specs.Clauses.{Variable, Query}
 use Rattle.horn.specs.Paths.{Path}
@@ -72,12 +72,12 @@ pub record Onward (s : Symbols) (cs : List Coded) (q : Query) (vs : List Variabl
 
 -- all clauses have symbols of the table
 abbrev pub KnownAll : List ℕ → List Coded → Type 0
-KnownAll table cs = All (λ d. d.predicate < length table) cs
+KnownAll table cs = AllByRecursion (λ d. d.predicate < length table) cs
 
 abbrev pub PathStep : Type 0
 PathStep =
     (s : Symbols) (table : List ℕ) → Names s table → (cs : List Coded) → KnownAll table cs → (q : Query) (vs : List Variable) (path : Path) (H : Heap) (Q : List ℕ) (g : Goal) (G : List Goal)
-    → All (λ i. i < length H) Q → All (Good table (length H)) (g ∷ G) → Stored s cs q vs path H Q (g ∷ G) → (c : ℕ) → Onward s cs q vs path H Q g G c
+    → AllByRecursion (λ i. i < length H) Q → AllByRecursion (Good table (length H)) (g ∷ G) → Stored s cs q vs path H Q (g ∷ G) → (c : ℕ) → Onward s cs q vs path H Q g G c
 
 -- a path that is stored passes; it succeeds just where no goals are left
 pub record Reached (s : Symbols) (cs : List Coded) (q : Query) (path : Path) (G : List Goal) : Type 0 where

@@ -1,6 +1,6 @@
 -- A clause that is being entered.
 use Rattle.std.specs.Prelude.{◌≡◌, ℕ, ◌+◌, ◌<◌, ◌≤◌, List, length, slice_index_or}
-use Rattle.std.specs.List.{AllByRecursion as All}
+use Rattle.std.specs.List.{AllByRecursion}
 use Rattle.horn.specs.Terms.{Terms, join}
 use Rattle.heap.specs.Limits.{cell_limit}
 use Rattle.heap.specs.Heaps.{Heap}
@@ -62,7 +62,7 @@ Stuck k m = (s : Symbols) → Names s k.table → (ρ : Valuation) (α σ : Term
 -- the state is one to go on from
 pub record Going (k : Setting) (m : State) : Type 0 where
   pub stands : Stands k.table m.heap m.slots
-  pub goals_in : All (Good k.table (length m.heap)) m.left
+  pub goals_in : AllByRecursion (Good k.table (length m.heap)) m.left
   pub args_in : (j : ℕ) → j < k.args → k.first + j < length m.heap
   -- the arguments put since the last call
   pub put : List ℕ

@@ -1,6 +1,6 @@
 -- Code words that are run.
 use Rattle.std.specs.Prelude.{ℕ, ◌+◌, ◌<◌, ◌≤◌, List, [], map, length, take, drop}
-use Rattle.std.specs.List.{AllByRecursion as All}
+use Rattle.std.specs.List.{AllByRecursion}
 use Rattle.heap.specs.Heaps.{Heap}
 use Rattle.code.specs.Limits.{call_limit}
 use Rattle.code.specs.Words.{decode}
@@ -37,6 +37,6 @@ pub record Ended (k : Setting) (count : ℕ) (m : State) (H' : Heap) (S' : Slots
 pub record Leaves (table : List ℕ) (H : Heap) (g : Goal) (words : List ℕ) (H' : Heap) (n : ℕ) (G : List Goal) : Type 0 where
   pub few : n ≤ call_limit
   pub typed : Typed table H'
-  pub goods : All (Good table (length H')) (take n G)
+  pub goods : AllByRecursion (Good table (length H')) (take n G)
   pub paid : length H' ≤ length H + dues (map decode words)
   pub entered : (s : Symbols) → Names s table → Entered s H g (map decode words) H' (take n G)

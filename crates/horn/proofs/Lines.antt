@@ -1,6 +1,6 @@
 -- A path's answer has one line: most general solutions differ by the names of variables, and the line numbers these anew.
 use Rattle.std.proofs.Common.{◌≡◌, ℕ, suc, Bool, true, false, cond, eqb, List, [], ◌∷◌, map, length, decimal, sym, refl, ap, ◌∙◌, subst, ap₂, inl, inr, arith}
-use Rattle.std.specs.List.{AllByRecursion as All}
+use Rattle.std.specs.List.{AllByRecursion}
 use Rattle.std.proofs.ByRecursion.{All-weaker}
 use Rattle.std.proofs.lemmas.Bool.{eq-eqb, ne_eqb, eqb-true}
 use Rattle.horn.specs.Terms.{Name, Term, Terms, var, node, nil, cons, eval, evals}
@@ -22,19 +22,19 @@ module _ {V A : Type 0} (f : V → A → A) (I : A → Type 0) where
     throughs-keeps nil h a i = i
     throughs-keeps (cons t ts) h a i = throughs-keeps ts (λ v o. h v (inr o)) (through f t a) (through-keeps t (λ v o. h v (inl o)) a i)
 
-all-note : {A : Type 0} (P : A → Type 0) (same : A → A → Bool) (x : A) (xs : List A) → P x → All P xs → All P (note same x xs)
+all-note : {A : Type 0} (P : A → Type 0) (same : A → A → Bool) (x : A) (xs : List A) → P x → AllByRecursion P xs → AllByRecursion P (note same x xs)
 all-note P same x [] p h = (p, tt)
 all-note P same x (y ∷ ys) p h = (h.0, go (all-note P same x ys p h.1) (same y x))
   where
-    go : All P (note same x ys) → (b : Bool) → All P (cond b ys (note same x ys))
+    go : AllByRecursion P (note same x ys) → (b : Bool) → AllByRecursion P (cond b ys (note same x ys))
     go ih true = h.1
     go ih false = ih
 
 -- the names are those of variables
-pub names-occur : (q : Query) → All (λ v. OccursIn (named v) q) (names_of q)
-names-occur q = throughs-keeps note_name (All (λ v. OccursIn (named v) q)) q step [] tt
+pub names-occur : (q : Query) → AllByRecursion (λ v. OccursIn (named v) q) (names_of q)
+names-occur q = throughs-keeps note_name (AllByRecursion (λ v. OccursIn (named v) q)) q step [] tt
   where
-    step : (v : Variable) → OccursIn v q → (vs : List Name) → All (λ v. OccursIn (named v) q) vs → All (λ v. OccursIn (named v) q) (note_name v vs)
+    step : (v : Variable) → OccursIn v q → (vs : List Name) → AllByRecursion (λ v. OccursIn (named v) q) vs → AllByRecursion (λ v. OccursIn (named v) q) (note_name v vs)
     step (named v) o vs h = all-note (λ v. OccursIn (named v) q) same_name v vs o h
     step (blank n) o vs h = h
 
@@ -75,11 +75,11 @@ module _ (ρ ρ' : ℕ → Term ℕ) where
       go true e = eq-eqb (r u) (r x) (ap r (eqb-true u x e))
       go false e = ne_eqb (r u) (r x) (λ k. let l : var u ≡ var x = sym a.1 ∙ ap ρ' k ∙ b.1 in let m : u ≡ x = cc in let z : eqb u x ≡ true = eq-eqb u x m in let y : ◌≡◌ {A = ℕ} 0 1 = cc in omega arith)
 
-  place_map : (x : ℕ) (us : List ℕ) → Renamed x → All Renamed us → place eqb (r x) (map r us) ≡ place eqb x us
+  place_map : (x : ℕ) (us : List ℕ) → Renamed x → AllByRecursion Renamed us → place eqb (r x) (map r us) ≡ place eqb x us
   place_map x [] a h = refl
   place_map x (u ∷ us) a h = ap₂ (λ (b : Bool) (n : ℕ). cond b 0 (suc n)) (apart u x h.0 a) (place_map x us a h.1)
 
-  note-map : (x : ℕ) (us : List ℕ) → Renamed x → All Renamed us → note eqb (r x) (map r us) ≡ map r (note eqb x us)
+  note-map : (x : ℕ) (us : List ℕ) → Renamed x → AllByRecursion Renamed us → note eqb (r x) (map r us) ≡ map r (note eqb x us)
   note-map x [] a h = refl
   note-map x (u ∷ us) a h =
       ap₂ (λ (b : Bool) (ws : List ℕ). r u ∷ cond b (map r us) ws) (apart u x h.0 a) (note-map x us a h.1) ∙ go (eqb u x)
@@ -88,34 +88,34 @@ module _ (ρ ρ' : ℕ → Term ℕ) where
       go true = refl
       go false = refl
 
-  renamed-note : (x : ℕ) → Renamed x → (us : List ℕ) → All Renamed us → All Renamed (note eqb x us)
+  renamed-note : (x : ℕ) → Renamed x → (us : List ℕ) → AllByRecursion Renamed us → AllByRecursion Renamed (note eqb x us)
   renamed-note x a us h = all-note Renamed eqb x us a h
 
   mutual
-    seen-map : (t : Term ℕ) (us : List ℕ) → ((x : ℕ) → Occurs x t → Renamed x) → All Renamed us → through (note eqb) (eval t ρ) (map r us) ≡ map r (through (note eqb) t us)
+    seen-map : (t : Term ℕ) (us : List ℕ) → ((x : ℕ) → Occurs x t → Renamed x) → AllByRecursion Renamed us → through (note eqb) (eval t ρ) (map r us) ≡ map r (through (note eqb) t us)
     seen-map (var x) us a h = ap (λ t. through (note eqb) t (map r us)) (a x refl).0 ∙ note-map x us (a x refl) h
     seen-map (node f ts) us a h = seens-map ts us a h
 
-    seens-map : (ts : Terms ℕ) (us : List ℕ) → ((x : ℕ) → OccursIn x ts → Renamed x) → All Renamed us → throughs (note eqb) (evals ts ρ) (map r us) ≡ map r (throughs (note eqb) ts us)
+    seens-map : (ts : Terms ℕ) (us : List ℕ) → ((x : ℕ) → OccursIn x ts → Renamed x) → AllByRecursion Renamed us → throughs (note eqb) (evals ts ρ) (map r us) ≡ map r (throughs (note eqb) ts us)
     seens-map nil us a h = refl
     seens-map (cons t ts) us a h =
         ap (throughs (note eqb) (evals ts ρ)) (seen-map t us (λ x o. a x (inl o)) h)
-        ∙ seens-map ts (through (note eqb) t us) (λ x o. a x (inr o)) (through-keeps (note eqb) (All Renamed) t (λ x o. renamed-note x (a x (inl o))) us h)
+        ∙ seens-map ts (through (note eqb) t us) (λ x o. a x (inr o)) (through-keeps (note eqb) (AllByRecursion Renamed) t (λ x o. renamed-note x (a x (inl o))) us h)
 
   -- the values θ' are the values θ, named anew
   module _ (θ θ' : Values) where
     abbrev pub Fits : Name → Type 0
     Fits v = (θ' (named v) ≡ eval (θ (named v)) ρ) × (eval (eval (θ (named v)) ρ) ρ' ≡ θ (named v))
 
-    values-map : (vs : List Name) → All Fits vs → values_of θ' vs ≡ evals (values_of θ vs) ρ
+    values-map : (vs : List Name) → AllByRecursion Fits vs → values_of θ' vs ≡ evals (values_of θ vs) ρ
     values-map [] h = refl
     values-map (v ∷ vs) h = ap₂ cons h.0.0 (values-map vs h.1)
 
-    values-back : (vs : List Name) → All Fits vs → evals (evals (values_of θ vs) ρ) ρ' ≡ values_of θ vs
+    values-back : (vs : List Name) → AllByRecursion Fits vs → evals (evals (values_of θ vs) ρ) ρ' ≡ values_of θ vs
     values-back [] h = refl
     values-back (v ∷ vs) h = ap₂ cons h.0.1 (values-back vs h.1)
 
-    shown-map : (us : List ℕ) (vs : List Name) → All Renamed us → All Fits vs → shown (label_in (map r us)) θ' vs ≡ shown (label_in us) θ vs
+    shown-map : (us : List ℕ) (vs : List Name) → AllByRecursion Renamed us → AllByRecursion Fits vs → shown (label_in (map r us)) θ' vs ≡ shown (label_in us) θ vs
     shown-map us [] a h = refl
     shown-map us (v ∷ vs) a h = ap₂ (λ (t : Term Name) (ts : Terms Name). cons (var v) (cons t ts)) value (shown-map us vs a h.1)
       where
@@ -126,13 +126,13 @@ module _ (ρ ρ' : ℕ → Term ℕ) where
             ∙ eval-on (θ (named v)) _ _ (λ x o. let k = renamed-in (θ (named v)) h.0.1 x o in
             ap (λ t. eval t (λ x. var (label_in (map r us) x))) k.0 ∙ ap (λ n. var (label n)) (place_map x us k a))
 
-    pub line-map : (vs : List Name) → All Fits vs → line_of θ vs ≡ line_of θ' vs
+    pub line-map : (vs : List Name) → AllByRecursion Fits vs → line_of θ vs ≡ line_of θ' vs
     line-map vs h =
         let ts = values_of θ vs in
         let us = unbound ts in
         let in-ts : (x : ℕ) → OccursIn x ts → Renamed x = renameds-in ts (values-back vs h) in
         let us-is : unbound (values_of θ' vs) ≡ map r us = ap unbound (values-map vs h) ∙ seens-map ts [] in-ts tt in
-        let all : All Renamed us = throughs-keeps (note eqb) (All Renamed) ts (λ x o. renamed-note x (in-ts x o)) [] tt in
+        let all : AllByRecursion Renamed us = throughs-keeps (note eqb) (AllByRecursion Renamed) ts (λ x o. renamed-note x (in-ts x o)) [] tt in
         ap (λ z. joined ((65 ∷ []) ∷ decimal (length vs) ∷ map field (wordss z [])))
         (sym (shown-map us vs all h) ∙ ap (λ z. shown (label_in z) θ' vs) (sym us-is))
 

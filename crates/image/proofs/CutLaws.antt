@@ -1,18 +1,18 @@
 -- Symbols and rows cut from words, and laid out as words.
 use Rattle.std.proofs.Common.{◌≡◌, ℕ, zero, suc, ◌*◌, ◌^◌, ◌<◌, Bool, true, false, cond, not, ◌&&◌, ◌||◌, eqb, List, [], ◌∷◌, ◌++◌, map, length, take, drop, Some, None, sym, refl, ap, ◌∙◌, subst, ap₂, append_assoc, arith}
-use Rattle.std.specs.List.{flat_map, AllByRecursion as All}
+use Rattle.std.specs.List.{flat_map, AllByRecursion}
 use Rattle.std.proofs.lemmas.List.{take_at, drop_at, take-append-drop, map-append}
 use Rattle.std.proofs.lemmas.Bool.{and_parts, eqb-true, eq-eqb, both_ways}
 use Rattle.code.specs.Tests.{some}
 use Rattle.image.specs.declared.rows.Row.{Row}
-use Rattle.symbols.specs.Symbols.{Symbol}
+use Rattle.symbol_table.specs.Symbols.{Symbol}
 use Rattle.image.specs.Symbols.{symbol_words, symbol_of, extent, symbols_of, after_symbols, proper, same, symbol_fault, arity}
 use Rattle.image.specs.Rows.{row_words, rows_of}
 use Rattle.image.specs.Images.{Good, Goods, Absent, Apart}
 use Rattle.image.proofs.SpellLaws.{arity-is, words-length, proper-symbol, symbol-words, words-good, words-symbol}
 
 abbrev pub Fit : List ℕ → Type 0
-Fit ws = All (λ w. w < 2 ^ 32) ws
+Fit ws = AllByRecursion (λ w. w < 2 ^ 32) ws
 
 never : {A : Type 0} {x : ℕ} → Some x ≡ None → A
 never e = let z : ◌≡◌ {A = ℕ} 0 1 = cc in absurd (omega arith)
@@ -88,7 +88,7 @@ after-cut (s ∷ ss) tail g =
 
 -- cutting: words without a fault are those of good symbols that are apart
 abbrev Trips : List (List ℕ) → Type 0
-Trips xs = All (λ x. symbol_words (symbol_of x) ≡ x) xs
+Trips xs = AllByRecursion (λ x. symbol_words (symbol_of x) ≡ x) xs
 
 absent-symbols : (x : List ℕ) (es : List (List ℕ)) → symbol_words (symbol_of x) ≡ x → Trips es → some (same x) es ≡ false → Absent (symbol_of x) (map symbol_of es)
 absent-symbols x [] t ts h = tt
@@ -110,11 +110,11 @@ pub record Cut (es xs : List (List ℕ)) : Type 0 where
   pub apart : Apart (map symbol_of es) (map symbol_of xs)
   pub trips : Trips xs
 
-pub cut-from : (es xs : List (List ℕ)) → Trips es → All Fit xs → symbol_fault es xs ≡ None → Cut es xs
+pub cut-from : (es xs : List (List ℕ)) → Trips es → AllByRecursion Fit xs → symbol_fault es xs ≡ None → Cut es xs
 cut-from es [] te f h = record { good = tt; apart = tt; trips = tt }
 cut-from es (x ∷ xs) te f h = go (cut-from (es ++ x ∷ []) xs) (proper x) (some (same x) es) refl refl h
   where
-    go : (Trips (es ++ x ∷ []) → All Fit xs → symbol_fault (es ++ x ∷ []) xs ≡ None → Cut (es ++ x ∷ []) xs) → (a b : Bool) → proper x ≡ a → some (same x) es ≡ b
+    go : (Trips (es ++ x ∷ []) → AllByRecursion Fit xs → symbol_fault (es ++ x ∷ []) xs ≡ None → Cut (es ++ x ∷ []) xs) → (a b : Bool) → proper x ≡ a → some (same x) es ≡ b
         → cond (a && not b) (symbol_fault (es ++ x ∷ []) xs) (Some (length es)) ≡ None → Cut es (x ∷ xs)
     go ih true false p q h =
         let t = words-symbol x f.0 p in
@@ -144,7 +144,7 @@ fit-drop zero ws f = f
 fit-drop (suc n) [] f = tt
 fit-drop (suc n) (w ∷ ws) f = fit-drop n ws f.1
 
-pub fit-symbols : (n : ℕ) (ws : List ℕ) → Fit ws → All Fit (symbols_of n ws)
+pub fit-symbols : (n : ℕ) (ws : List ℕ) → Fit ws → AllByRecursion Fit (symbols_of n ws)
 fit-symbols zero ws f = tt
 fit-symbols (suc n) ws f = (fit-take (extent ws) ws f, fit-symbols n (drop (extent ws) ws) (fit-drop (extent ws) ws f))
 

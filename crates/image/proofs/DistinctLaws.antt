@@ -3,11 +3,11 @@ use Rattle.std.proofs.Common.{◌≡◌, ℕ, zero, suc, ◌<◌, List, [], ◌�
 use Rattle.std.proofs.lemmas.Bool.{cases_lt, cases_eq}
 use Rattle.image.specs.declared.view.Image.{Image}
 use Rattle.image.specs.declared.faults.ImageFault.{ImageFault}
-use Rattle.symbols.specs.Symbols.{Symbol}
+use Rattle.symbol_table.specs.Symbols.{Symbol}
 use Rattle.image.specs.Checked.{checked}
 use Rattle.image.specs.Said.{said, parts_of}
 use Rattle.image.specs.Images.{Absent, Apart}
-use Rattle.symbols.specs.Symbols.{symbol_at}
+use Rattle.symbol_table.specs.Symbols.{symbol_at}
 use Rattle.image.specs.Programs.{Distinct}
 use Rattle.image.proofs.CutLaws.{Fit}
 use Rattle.image.proofs.ImageLaws.{accepted}

@@ -1,7 +1,7 @@
 -- Words, their bytes, and the words again.
 use Rattle.std.proofs.Common.{◌≡◌, ℕ, ◌+◌, ◌-◌, ◌*◌, ◌/◌, ◌%◌, ◌^◌, ◌<◌, ◌≤◌, List, [], ◌∷◌, ◌++◌, length, get_or, take, drop, sym, refl, ap, ◌∙◌, ap₂, append_assoc, append-nil, mod-eq_of_lt, div-add-mod', arith}
 use native.Mathlib.Nat.{div-div-eq-div-mul}
-use Rattle.std.specs.List.{AllByRecursion as All}
+use Rattle.std.specs.List.{AllByRecursion}
 use Rattle.std.proofs.lemmas.List.{at_drop_more, at_drop_all, take_all}
 use Rattle.image.specs.Bytes.{bytes_of, word_of, words_of}
 
@@ -17,7 +17,7 @@ whole w h =
     (ap (λ q. q * 256 + w / 65536 % 256) (sym (div-div-eq-div-mul w 65536 256)) ∙ div-add-mod' (w / 65536) 256)
     (mod-eq_of_lt top)
 
-pub read_back : (ws : List ℕ) → All (λ w. w < 2 ^ 32) ws → words_of (bytes_of ws) ≡ ws
+pub read_back : (ws : List ℕ) → AllByRecursion (λ w. w < 2 ^ 32) ws → words_of (bytes_of ws) ≡ ws
 read_back [] h = refl
 read_back (w ∷ ws) h = ap₂ ◌∷◌ (whole w h.0) (read_back ws h.1)
 

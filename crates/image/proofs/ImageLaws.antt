@@ -11,7 +11,7 @@ use Rattle.image.specs.declared.view.Image.{Image}
 use Rattle.image.specs.declared.faults.ImageFault.{ImageFault}
 use Rattle.image.specs.declared.faults.ImageFault.TheVariants.{Header, Symbol as BadSymbol, Layout, Code}
 use Rattle.image.specs.Limits.{symbol_limit, clause_limit, code_limit}
-use Rattle.symbols.specs.Symbols.{Symbol}
+use Rattle.symbol_table.specs.Symbols.{Symbol}
 use Rattle.image.specs.Symbols.{symbol_words, symbol_of, symbols_of, after_symbols, symbol_fault, arity}
 use Rattle.image.specs.Rows.{row_words, rows_of, next, code_of, row_fault}
 use Rattle.image.specs.Checked.{Parts, unless, code_fault, fitting, laid_out, body, is_header, checked}

@@ -5,7 +5,7 @@ use Rattle.std.proofs.lemmas.Bool.{and_parts, eqb-true}
 use Rattle.lines.specs.Limits.{name_limit, arity_limit}
 use Rattle.lines.specs.Words.{is_name}
 use Rattle.image.specs.Bytes.{bytes_of}
-use Rattle.symbols.specs.Symbols.{Symbol}
+use Rattle.symbol_table.specs.Symbols.{Symbol}
 use Rattle.image.specs.Symbols.{symbol_of, size_of, arity_of, name_words, proper, arity}
 use Rattle.image.proofs.NameLaws.{zeros, rest, length-bytes}
 use Rattle.image.proofs.SpellLaws.{never, name-short}

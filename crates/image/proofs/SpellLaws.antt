@@ -1,12 +1,12 @@
 -- A symbol's words say that symbol and no other.
 use Rattle.std.proofs.Common.{◌≡◌, ℕ, zero, suc, ◌+◌, ◌*◌, ◌/◌, ◌%◌, ◌^◌, ◌<◌, ◌≤◌, true, false, ◌&&◌, ◌||◌, eqb, leb, List, [], ◌∷◌, ◌++◌, length, take, drop, sym, refl, ap, ◌∙◌, ap₂, ⊎_elim, arith}
-use Rattle.std.specs.List.{AllByRecursion as All}
+use Rattle.std.specs.List.{AllByRecursion}
 use Rattle.std.proofs.lemmas.Bool.{and_parts, and_from, or_cases, eqb-true, eq-eqb, leb-true, le-leb}
 use Rattle.lines.specs.Limits.{name_limit, arity_limit}
 use Rattle.lines.specs.Words.{lower, upper, digit, plain, namely, is_name}
 use Rattle.lines.specs.Words.{every as all}
 use Rattle.image.specs.Bytes.{bytes_of, word_of, packed}
-use Rattle.symbols.specs.Symbols.{Symbol}
+use Rattle.symbol_table.specs.Symbols.{Symbol}
 use Rattle.image.specs.Symbols.{symbol_words, symbol_of, arity_of, size_of, name_words, proper}
 use Rattle.image.specs.Images.{Good}
 use Rattle.image.proofs.FileLaws.{whole}
@@ -32,14 +32,14 @@ namely-byte b h =
     (λ r. ⊎_elim (λ x. exactly b 46 x (omega arith)) (λ x. exactly b 45 x (omega arith)) (or_cases (eqb b 46) (eqb b 45) r))
     (or_cases (plain b) (eqb b 46 || eqb b 45) h)
 
-all-bytes : (f : List ℕ) → all namely f ≡ true → All (λ b. b < 256) f
+all-bytes : (f : List ℕ) → all namely f ≡ true → AllByRecursion (λ b. b < 256) f
 all-bytes [] h = tt
 all-bytes (b ∷ bs) h = let p = and_parts (namely b) (all namely bs) h in (namely-byte b p.0, all-bytes bs p.1)
 
 pub never : {A : Type 0} → false ≡ true → A
 never e = let z : ◌≡◌ {A = ℕ} 0 1 = cc in absurd (omega arith)
 
-pub name-bytes : (f : List ℕ) → is_name f ≡ true → All (λ b. b < 256) f
+pub name-bytes : (f : List ℕ) → is_name f ≡ true → AllByRecursion (λ b. b < 256) f
 name-bytes [] h = tt
 name-bytes (b ∷ bs) h =
     let p = and_parts (lower b) (leb (suc (length bs)) name_limit && all namely bs) h in
@@ -79,7 +79,7 @@ padding (a ∷ b ∷ []) = 0 ∷ 0 ∷ []
 padding (a ∷ b ∷ c ∷ []) = 0 ∷ []
 padding (a ∷ b ∷ c ∷ d ∷ rest) = padding rest
 
-bytes_packed : (f : List ℕ) → All (λ b. b < 256) f → bytes_of (packed f) ≡ f ++ padding f
+bytes_packed : (f : List ℕ) → AllByRecursion (λ b. b < 256) f → bytes_of (packed f) ≡ f ++ padding f
 bytes_packed [] h = refl
 bytes_packed (a ∷ []) h = bytes_word a 0 0 0 h.0 (omega arith) (omega arith) (omega arith) []
 bytes_packed (a ∷ b ∷ []) h = bytes_word a b 0 0 h.0 h.1.0 (omega arith) (omega arith) []
@@ -114,7 +114,7 @@ nil-zeros : (ws : List ℕ) → suc (length ws) ≡ 1 → ws ≡ []
 nil-zeros [] h = refl
 nil-zeros (w ∷ ws) h = absurd (omega arith)
 
-pub packed-bytes : (ws : List ℕ) (n : ℕ) → All (λ w. w < 2 ^ 32) ws → length ws ≡ (n + 3) / 4 → zeros (drop n (bytes_of ws)) ≡ true → packed (take n (bytes_of ws)) ≡ ws
+pub packed-bytes : (ws : List ℕ) (n : ℕ) → AllByRecursion (λ w. w < 2 ^ 32) ws → length ws ≡ (n + 3) / 4 → zeros (drop n (bytes_of ws)) ≡ true → packed (take n (bytes_of ws)) ≡ ws
 packed-bytes [] zero h l z = refl
 packed-bytes [] (suc n) h l z = absurd (omega arith)
 packed-bytes (w ∷ ws) zero h l z = absurd (omega arith)
@@ -199,7 +199,7 @@ long-bytes : (ws : List ℕ) → length (bytes_of ws) ≡ 4 * length ws
 long-bytes [] = refl
 long-bytes (w ∷ ws) = let ih = long-bytes ws in omega arith
 
-pub words-symbol : (x : List ℕ) → All (λ w. w < 2 ^ 32) x → proper x ≡ true → symbol_words (symbol_of x) ≡ x
+pub words-symbol : (x : List ℕ) → AllByRecursion (λ w. w < 2 ^ 32) x → proper x ≡ true → symbol_words (symbol_of x) ≡ x
 words-symbol [] f h = never h
 words-symbol (w ∷ ws) f h =
     let p = and_parts (leb (arity_of w) arity_limit && eqb (length ws) (name_words w)) (is_name (take (size_of w) (bytes_of ws)) && zeros (drop (size_of w) (bytes_of ws))) h in

@@ -5,7 +5,7 @@ use Rattle.image.specs.declared.rows.Row.{Row}
 use Rattle.image.specs.declared.faults.ImageFault.{ImageFault}
 use Rattle.image.specs.declared.faults.ImageFault.TheVariants.{Header, Symbol as BadSymbol, Layout, Code}
 use Rattle.image.specs.Limits.{symbol_limit, clause_limit, code_limit}
-use Rattle.symbols.specs.Symbols.{Symbol}
+use Rattle.symbol_table.specs.Symbols.{Symbol}
 use Rattle.image.specs.Symbols.{symbol_of, symbols_of, after_symbols, symbol_fault, arity}
 use Rattle.image.specs.Rows.{rows_of, next, code_of, row_fault}
 

@@ -7,7 +7,7 @@ use Rattle.code.specs.WellFormed.{Runnable}
 use Rattle.image.specs.declared.rows.Row.{Row}
 use Rattle.image.specs.declared.faults.ImageFault.{ImageFault}
 use Rattle.image.specs.Limits.{symbol_limit, clause_limit, code_limit}
-use Rattle.symbols.specs.Symbols.{Symbol}
+use Rattle.symbol_table.specs.Symbols.{Symbol}
 use Rattle.image.specs.Symbols.{symbol_words}
 use Rattle.image.specs.Rows.{row_words, next, code_of, row_fault}
 use Rattle.image.specs.Checked.{Parts, code_fault}

@@ -4,7 +4,7 @@ use Rattle.horn.specs.Instances.{Rule}
 use Rattle.code.specs.Words.{decode}
 use Rattle.code.specs.Meaning.{Symbols, code_rule}
 use Rattle.image.specs.declared.rows.Row.{Row}
-use Rattle.symbols.specs.Symbols.{Symbol, symbol_at}
+use Rattle.symbol_table.specs.Symbols.{Symbol, symbol_at}
 use Rattle.image.specs.Rows.{next, code_of}
 use Rattle.image.specs.Checked.{Parts}
 use Rattle.image.specs.Images.{arities}

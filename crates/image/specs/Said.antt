@@ -4,7 +4,7 @@ use Rattle.image.specs.declared.view.Image.{Image}
 use Rattle.image.specs.declared.symbol.Symbol.{Symbol}
 use Rattle.image.specs.declared.symbols.Symbols.{Symbols}
 use Rattle.image.specs.declared.faults.ImageFault.{ImageFault}
-use Rattle.symbols.specs.Symbols.{Symbol as ImageSymbol}
+use Rattle.symbol_table.specs.Symbols.{Symbol as ImageSymbol}
 use Rattle.image.specs.Symbols.{symbol_of, extent, symbols_of}
 use Rattle.image.specs.Rows.{rows_of}
 use Rattle.image.specs.Checked.{Parts}

@@ -3,7 +3,7 @@ use Rattle.std.specs.Prelude.{ℕ, zero, suc, ◌+◌, ◌*◌, ◌/◌, ◌%◌
 use Rattle.lines.specs.Limits.{arity_limit}
 use Rattle.lines.specs.Words.{is_name}
 use Rattle.code.specs.Tests.{every, some}
-use Rattle.symbols.specs.Symbols.{Symbol}
+use Rattle.symbol_table.specs.Symbols.{Symbol}
 use Rattle.image.specs.Bytes.{bytes_of, packed}
 
 -- its words: arity * 256 + name length, and then the name's bytes

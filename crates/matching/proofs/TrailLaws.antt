@@ -1,7 +1,7 @@
 -- Laws of the trail.
 use Rattle.std.proofs.Common.{◌≡◌, ℕ, ◌<◌, ◌≤◌, List, [], ◌∷◌, ◌++◌, length, take, drop, set, sym, refl, ap, ◌∙◌, subst, append_assoc, append-nil, arith, length-append, length-set}
 use native.Mathlib.Decide.{ℕ_discrete}
-use Rattle.std.specs.List.{AllByRecursion as All}
+use Rattle.std.specs.List.{AllByRecursion}
 use Rattle.std.proofs.lemmas.List.{set-set, set-get_or, drop-append-le, take-append-le, length_push, take_all, drop_all, drop_at, take_at}
 use Rattle.std.proofs.ByRecursion.{All-append}
 use Rattle.heap.specs.Heaps.{Heap, cell, Rooted, total, plain, arity}
@@ -64,13 +64,13 @@ kept_trans {H} {H'} {H''} {t} {t'} {t''} p q = record {
   longer = q.longer ∙ ap (λ x. x ++ q.added) p.longer ∙ append_assoc t p.added q.added;
   back = undone-append p.added q.added H'' ∙ ap (undone p.added) q.back ∙ p.back;
   long = q.long ∙ p.long;
-  inside = All-append _ p.added q.added p.inside (subst (λ n. All (λ b. b.at < n) q.added) p.long q.inside);
+  inside = All-append _ p.added q.added p.inside (subst (λ n. AllByRecursion (λ b. b.at < n) q.added) p.long q.inside);
   bound = omega (arith, p.bound, q.bound);
   fewer = omega (arith, p.fewer, q.fewer);
   nodes = λ i f n b e. p.nodes i f n b (q.nodes i f n b e);
 }
 
-all-last : {X : Type 0} (P : X → Type 0) (xs : List X) (y : X) → All P (xs ++ y ∷ []) → All P xs × P y
+all-last : {X : Type 0} (P : X → Type 0) (xs : List X) (y : X) → AllByRecursion P (xs ++ y ∷ []) → AllByRecursion P xs × P y
 all-last P [] y h = (tt, h.0)
 all-last P (x ∷ xs) y h = let r = all-last P xs y h.1 in ((h.0, r.0), r.1)
 
@@ -105,7 +105,7 @@ module _ {H H' : Heap} {t t' : List Bound} (k : Kept H t H' t') (n : ℕ) (e : n
   kept-cut = ap (drop n) k.longer ∙ drop_at t k.added n (sym e)
 
   pub kept-inside : InTrail H' (drop n t')
-  kept-inside = subst (InTrail H') (sym kept-cut) (subst (λ m. All (λ b. b.at < m) k.added) (sym k.long) k.inside)
+  kept-inside = subst (InTrail H') (sym kept-cut) (subst (λ m. AllByRecursion (λ b. b.at < m) k.added) (sym k.long) k.inside)
 
   pub kept_back : undone (drop n t') H' ≡ H
   kept_back = ap (λ x. undone x H') kept-cut ∙ k.back

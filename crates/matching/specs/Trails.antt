@@ -1,6 +1,6 @@
 -- The trail: the cells that were bound, with what they held before.
 use Rattle.std.specs.Prelude.{◌≡◌, ℕ, ◌+◌, ◌<◌, ◌≤◌, List, [], ◌∷◌, ◌++◌, length, take, drop, slice_set}
-use Rattle.std.specs.List.{AllByRecursion as All}
+use Rattle.std.specs.List.{AllByRecursion}
 use Rattle.heap.specs.Heaps.{Heap, cell, total, plain, arity}
 use Rattle.heap.specs.declared.cell.Cell.TheVariants.{Node}
 use Rattle.matching.specs.declared.trail.Bound.{Bound}
@@ -17,7 +17,7 @@ undone (b ∷ t) H = slice_set (undone t H) b.at b.was
 
 -- the cells of the trail are cells of the heap
 abbrev pub InTrail : Heap → List Bound → Type 0
-InTrail H t = All (λ b. b.at < length H) t
+InTrail H t = AllByRecursion (λ b. b.at < length H) t
 
 -- the trail t, with some bindings added, leads from H' back to H
 pub record Kept (H : Heap) (t : List Bound) (H' : Heap) (t' : List Bound) : Type 0 where

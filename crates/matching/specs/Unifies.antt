@@ -1,6 +1,6 @@
 -- Matching: the pairs of cells that have yet to agree, and what is made of them.
 use Rattle.std.specs.Prelude.{◌≡◌, ℕ, zero, suc, ◌+◌, ◌<◌, ◌≤◌, List, [], ◌∷◌, length}
-use Rattle.std.specs.List.{AllByRecursion as All}
+use Rattle.std.specs.List.{AllByRecursion}
 use Rattle.heap.specs.Heaps.{Heap, Sound, Closed, total, arity}
 use Rattle.heap.specs.Solutions.{Naming, Valuation, Sol, Tells}
 use Rattle.matching.specs.declared.pairs.Pair.{Pair}
@@ -15,10 +15,10 @@ pub record Unified (H H' : Heap) (a b : ℕ) : Type 0 where
 
 -- all pairs agree
 abbrev pub Agree : Valuation → List Pair → Type 0
-Agree ρ ps = All (λ p. ρ p.left ≡ ρ p.right) ps
+Agree ρ ps = AllByRecursion (λ p. ρ p.left ≡ ρ p.right) ps
 
 abbrev pub Inside : Heap → List Pair → Type 0
-Inside H ps = All (λ p. (p.left < length H) × (p.right < length H)) ps
+Inside H ps = AllByRecursion (λ p. (p.left < length H) × (p.right < length H)) ps
 
 abbrev pub pair : ℕ → ℕ → Pair
 pair i j = record { left = i; right = j }

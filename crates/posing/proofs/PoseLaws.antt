@@ -1,7 +1,7 @@
 -- Laws of a query that is built from the right.
 use Rattle.std.proofs.Common.{◌≡◌, ℕ, zero, suc, ◌+◌, ◌<◌, ◌≤◌, ◌⊎◌, List, [], ◌∷◌, ◌++◌, length, get_or, drop, Some, None, Option, sym, refl, ap, ◌∙◌, subst, ap₂, inl, inr, arith, length-drop, get_or-set_other, get_or-set_same}
 use native.Mathlib.Decide.{dec_lt, ℕ_discrete}
-use Rattle.std.specs.List.{AllByRecursion as All}
+use Rattle.std.specs.List.{AllByRecursion}
 use Rattle.std.proofs.lemmas.List.{length_push}
 use Rattle.std.proofs.ByRecursion.{All-weaker}
 use Rattle.horn.specs.Terms.{node, nil, cons, front, back}
@@ -58,7 +58,7 @@ drop-back s ρ σ zero es = refl
 drop-back s ρ σ (suc n) [] = refl
 drop-back s ρ σ (suc n) (e ∷ es) = drop-back s ρ σ n es
 
-all_drop : {X : Type 0} (P : X → Type 0) (n : ℕ) (xs : List X) → All P xs → All P (drop n xs)
+all_drop : {X : Type 0} (P : X → Type 0) (n : ℕ) (xs : List X) → AllByRecursion P xs → AllByRecursion P (drop n xs)
 all_drop P zero xs h = h
 all_drop P (suc n) [] h = tt
 all_drop P (suc n) (x ∷ xs) h = all_drop P n xs h.1
@@ -68,7 +68,7 @@ sits-more table m m' n n' (Atom c) em le h = h
 sits-more table m m' n n' (Slot y) em le h = omega arith
 sits-more table m m' n n' (Place i) em le h = omega arith
 
-pub sits-all : (table : List ℕ) (m m' n n' : ℕ) (es : List Entry) → m' ≡ m → n ≤ n' → All (Sits table m n) es → All (Sits table m' n') es
+pub sits-all : (table : List ℕ) (m m' n n' : ℕ) (es : List Entry) → m' ≡ m → n ≤ n' → AllByRecursion (Sits table m n) es → AllByRecursion (Sits table m' n') es
 sits-all table m m' n n' es em le h = All-weaker (Sits table m n) (Sits table m' n') (λ e. sits-more table m m' n n' e em le) es h
 
 wait-drop : (S : Slots) (y n : ℕ) (es : List Entry) → Waiting y es → ((j : ℕ) → j < n → get_or es j (Atom 0) ≡ Slot y → Has S y) → Waiting y (drop n es) ⊎ Has S y

@@ -3,7 +3,7 @@ use Rattle.std.proofs.Common.{◌≡◌, ℕ, zero, suc, ◌+◌, ◌-◌, ◌<�
 use Rattle.std.proofs.lemmas.List.{drop_more}
 use Rattle.horn.specs.Terms.{var}
 use Rattle.heap.proofs.PushLaws.{closed_none}
-use Rattle.std.specs.List.{AllByRecursion as All}
+use Rattle.std.specs.List.{AllByRecursion}
 use Rattle.heap.specs.Heaps.{Heap}
 use Rattle.heap.specs.declared.cell.Cell.TheVariants.{Node}
 use Rattle.entering.specs.declared.goal.Goal.{Goal}
@@ -40,13 +40,13 @@ module _ {X : Type 0} (d : X) where
   top-at xs (suc n) zero l = ap (λ z. get_or xs z d) (omega arith)
   top-at xs (suc n) (suc j) l = top-at xs n j (omega arith) ∙ ap (λ z. get_or xs z d) (omega arith)
 
-all-at : {X : Type 0} (P : X → Type 0) (d : X) (xs : List X) (j : ℕ) → j < length xs → All P xs → P (get_or xs j d)
+all-at : {X : Type 0} (P : X → Type 0) (d : X) (xs : List X) (j : ℕ) → j < length xs → AllByRecursion P xs → P (get_or xs j d)
 all-at P d [] j l h = absurd (omega arith)
 all-at P d (x ∷ xs) zero l h = h.0
 all-at P d (x ∷ xs) (suc j) l h = all-at P d xs j (omega arith) h.1
 
 -- the entries at the top
-pub top-sits : (table : List ℕ) (m k : ℕ) (xs : List Entry) (n j : ℕ) → j < n → All (Sits table m k) (from_top no_entry xs n) → Sits table m k (entry_at xs n j)
+pub top-sits : (table : List ℕ) (m k : ℕ) (xs : List Entry) (n j : ℕ) → j < n → AllByRecursion (Sits table m k) (from_top no_entry xs n) → Sits table m k (entry_at xs n j)
 top-sits table m k xs n j l h =
     subst (Sits table m k) (top-at no_entry xs n j l) (all-at (Sits table m k) no_entry (from_top no_entry xs n) j (omega (arith, top-length no_entry xs n)) h)
 

@@ -1,6 +1,6 @@
 -- A query that is half built, from the right.
 use Rattle.std.specs.Prelude.{◌≡◌, ℕ, ◌+◌, ◌-◌, ◌<◌, ◌≤◌, ◌⊎◌, List, [], ◌∷◌, length, Some, None, slice_index, slice_index_or}
-use Rattle.std.specs.List.{AllByRecursion as All}
+use Rattle.std.specs.List.{AllByRecursion}
 use Rattle.horn.specs.Terms.{Term, Terms, node, nil, cons}
 use Rattle.heap.specs.Heaps.{Heap}
 use Rattle.heap.specs.Solutions.{Valuation}
@@ -63,8 +63,8 @@ Waiting y (e ∷ es) = (e ≡ Variable y) ⊎ Waiting y es
 -- the words ps have been built, from no cells and empty slots
 pub record Posing (table : List ℕ) (S₀ : Slots) (ps : List Piece) (H : Heap) (S : Slots) (es : List Entry) (G : List Goal) : Type 0 where
   pub turned : Turned table [] S₀ Nothing (Reads es G ps) H S
-  pub sits : All (Sits table (length S) (length H)) es
-  pub goods : All (Good table (length H)) G
+  pub sits : AllByRecursion (Sits table (length S) (length H)) es
+  pub goods : AllByRecursion (Good table (length H)) G
   pub count : length es ≡ waits ps
   pub goals_count : length G ≡ asked ps
   pub paid : length H + length es ≤ weighs ps

@@ -1,6 +1,6 @@
 -- Cells that stand for a query.
 use Rattle.std.specs.Prelude.{◌≡◌, ℕ, zero, suc, ◌≤◌, List, [], ◌∷◌, length, slice_index_or}
-use Rattle.std.specs.List.{AllByRecursion as All}
+use Rattle.std.specs.List.{AllByRecursion}
 use Rattle.heap.specs.Heaps.{Heap}
 use Rattle.heap.specs.Solutions.{Valuation, Sol}
 use Rattle.code.specs.Meaning.{Symbols, Terming}
@@ -31,7 +31,7 @@ Builds table p H S es G H' S' es' G' = (S₀ : Slots) (ps : List Piece) → Posi
 -- the cells, with the slots of the variables and the goals, have just the terms of the query's instances
 pub record Started (table : List ℕ) (ps : List Piece) (H : Heap) (S : Slots) (G : List Goal) : Type 0 where
   pub stands : Stands table H S
-  pub goods : All (Good table (length H)) G
+  pub goods : AllByRecursion (Good table (length H)) G
   pub paid : length H ≤ weighs ps
   pub placed : (y : ℕ) → Occurs y ps → Has S y
   pub into : (s : Symbols) → Names s table → (ρ : Valuation) (σ : Terming) → Sol s.name H ρ → Fits S ρ σ → vals s ρ G ≡ goals_of s σ ps

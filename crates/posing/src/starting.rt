@@ -1,6 +1,6 @@
 // A query's words become cells, from the last to the first.
 ghost use Rattle.std.specs.Prelude.{◌≡◌, ℕ, ◌+◌, ◌-◌, ◌<◌, ◌≤◌, List, [], ◌∷◌, ◌++◌, length, None, slice_index_or};
-ghost use Rattle.std.specs.List.{AllByRecursion as All};
+ghost use Rattle.std.specs.List.{AllByRecursion};
 ghost use Rattle.horn.specs.Weights.{line_weight_limit};
 ghost use Rattle.heap.specs.Limits.{cell_limit};
 ghost use Rattle.cells.specs.Stores.{cells_of};
@@ -31,7 +31,7 @@ fn start_piece(
     piece: Piece,
 ) -> Depth
     requires stands { Stands table.now (cells_of store.old) slots.old }
-    requires sits { All (Sits table.now (length slots.old) (length (cells_of store.old))) (from_top no_entry stack.old depth.entries) }
+    requires sits { AllByRecursion (Sits table.now (length slots.old) (length (cells_of store.old))) (from_top no_entry stack.old depth.entries) }
     requires fit { FitOne table.now (length slots.old) depth.entries piece }
     requires stack { depth.entries < length stack.old }
     requires goals { depth.goals + asked (piece ∷ []) ≤ length goals.old }

@@ -1,6 +1,6 @@
 -- Accepted lines give clauses whose heads and goals are no variables, and a query that has a goal and is light.
 use Rattle.std.proofs.Common.{◌≡◌, ℕ, ◌+◌, List, [], ◌∷◌, Ok, refl, ap, ap₂, arith}
-use Rattle.std.specs.List.{AllByRecursion as All}
+use Rattle.std.specs.List.{AllByRecursion}
 use Rattle.horn.specs.Terms.{Term, Terms, var, node, nil, cons, count, eval}
 use Rattle.horn.specs.Clauses.{Variable, Clause, Callable, Callables, called, written}
 use Rattle.horn.specs.Weights.{own, weigh, weighs, under, load}
@@ -45,7 +45,7 @@ clause-callable line c e =
     let h = ((one-clause line c).0 e).reading.proper.callable in
     (callable-off c.head h.0, callables-off c.goals h.1)
 
-proper : (deck : Deck) → All (λ c. Callable c.head × Callables c.goals) deck → Proper deck
+proper : (deck : Deck) → AllByRecursion (λ c. Callable c.head × Callables c.goals) deck → Proper deck
 proper [] h = tt
 proper (c ∷ cs) h = (h.0.0, h.0.1, proper cs h.1)
 

@@ -1,6 +1,6 @@
 -- An answer line is read back as the answer's terms.
 use Rattle.std.proofs.Common.{◌≡◌, ℕ, suc, ◌+◌, ◌^◌, ◌<◌, ◌≤◌, Bool, true, false, cond, List, [], ◌∷◌, map, length, drop, decimal, sym, refl, ap, ◌∙◌, subst, inl, inr, arith}
-use Rattle.std.specs.List.{AllByRecursion as All}
+use Rattle.std.specs.List.{AllByRecursion}
 use Rattle.std.proofs.ByRecursion.{All-weaker}
 use Rattle.horn.specs.Terms.{Name, Term, Terms, var, node, nil, cons, count, eval, evals}
 use Rattle.horn.specs.Clauses.{Variable, named, blank, Query, called, written}
@@ -74,7 +74,7 @@ module _ (ν : ℕ → Name) where
     values-good nil h k = tt
     values-good (cons t ts) h k = (value-good t h.0 (λ x o. k x (inl o)), values-good ts h.1 (λ x o. k x (inr o)))
 
-  shown-good : (θ : Values) (vs : List Name) → All (λ v. (is_variable v ≡ true) × Sound (θ (named v))) vs → ((x : ℕ) → OccursIn x (values_of θ vs) → is_variable (ν x) ≡ true) → Goods (shown ν θ vs)
+  shown-good : (θ : Values) (vs : List Name) → AllByRecursion (λ v. (is_variable v ≡ true) × Sound (θ (named v))) vs → ((x : ℕ) → OccursIn x (values_of θ vs) → is_variable (ν x) ≡ true) → Goods (shown ν θ vs)
   shown-good θ [] h k = tt
   shown-good θ (v ∷ vs) h k = (h.0.0, (value-good (θ (named v)) h.0.1 (λ x o. k x (inl o)), shown-good θ vs h.1 (λ x o. k x (inr o))))
 
@@ -84,7 +84,7 @@ read_back lines line deck q d e p θ a few =
     let ts = values_of θ vs in
     let ν = label_in (unbound ts) in
     let proper = ((one-query line q).0 e).reading.proper in
-    let fit : All (λ v. (is_variable v ≡ true) × Sound (θ (named v))) vs =
+    let fit : AllByRecursion (λ v. (is_variable v ≡ true) × Sound (θ (named v))) vs =
     All-weaker (λ v. OccursIn (named v) q) _ (λ v o. (variables-good q proper.good v o, answer-sound deck q p (deck-sound lines deck d) (query-sound line q e) θ a (named v) o)) vs (names-occur q) in
     let good = shown-good ν θ vs fit (label-good ts few) in
     let short : length vs < 2 ^ 64 = omega (arith, length-goals q [], proper.light) in (

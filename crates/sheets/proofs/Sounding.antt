@@ -1,6 +1,6 @@
 -- Answers to accepted lines have only symbols that a field can spell.
 use Rattle.std.proofs.Common.{◌≡◌, ℕ, zero, suc, List, [], ◌∷◌, Some, Ok, sym, ap, ◌∙◌, subst, arith}
-use Rattle.std.specs.List.{AllByRecursion as All}
+use Rattle.std.specs.List.{AllByRecursion}
 use Rattle.horn.specs.Terms.{Term, Terms, var}
 use Rattle.horn.specs.Clauses.{Variable, Clause, Query, called}
 use Rattle.horn.specs.Paths.{Path}
@@ -27,13 +27,13 @@ record SoundAt (s : Standing) : Type 0 where
   pub equations : SoundAll s.equations
   pub goals : Sounds s.goals
 
-sound-clause : (deck : Deck) (n : ℕ) (c : Clause) → All SoundClause deck → clause_at deck n ≡ Some c → SoundClause c
+sound-clause : (deck : Deck) (n : ℕ) (c : Clause) → AllByRecursion SoundClause deck → clause_at deck n ≡ Some c → SoundClause c
 sound-clause [] n c h e = let z : ◌≡◌ {A = ℕ} 0 1 = cc in absurd (omega arith)
 sound-clause (d ∷ deck) zero c h e = let z : ◌≡◌ {A = ℕ} 0 1 = cc in absurd (omega arith)
 sound-clause (d ∷ deck) (suc zero) c h e = let k : d ≡ c = cc in subst SoundClause k h.0
 sound-clause (d ∷ deck) (suc (suc n)) c h e = sound-clause deck (suc n) c h.1 e
 
-module _ (deck : Deck) (sound : All SoundClause deck) where
+module _ (deck : Deck) (sound : AllByRecursion SoundClause deck) where
   sound-taking : (s : Standing) (g : Term Apart) (gs : Terms Apart) (c : Clause) → SoundAll s.equations → Sound g → Sounds gs → SoundClause c → SoundAt (taking s g gs c)
   sound-taking s g gs c es h hs k = record {
     equations = ((h, sound-eval c.head _ k.0 (λ v. tt)), es);
@@ -57,7 +57,7 @@ solves-clean ρ [] h k = tt
 solves-clean ρ (e ∷ es) h k =
     (sym (clean-eval e.0 ρ h.0.0) ∙ ap clean k.0 ∙ clean-eval e.1 ρ h.0.1, solves-clean ρ es h.1 k.1)
 
-module _ (deck : Deck) (q : Query) (p : Path) (sound : All SoundClause deck) (asks : Sounds q) where
+module _ (deck : Deck) (q : Query) (p : Path) (sound : AllByRecursion SoundClause deck) (asks : Sounds q) where
   solution-clean : (σ : Values) → Solution deck q p σ → Solution deck q p (λ v. clean (σ v))
   solution-clean σ w =
       let h = known (standing deck q p) _ w in
@@ -76,7 +76,7 @@ clause-sound line c e =
     let g = ((one-clause line c).0 e).reading.proper.good in
     (sound-off c.head (λ v. var (called v)) (good-sound _ g.0), sounds-off c.goals (λ v. var (called v)) (goods-sound _ g.1))
 
-pub deck-sound : (lines : List (List ℕ)) (deck : Deck) → deck_of lines ≡ Ok deck → All SoundClause deck
+pub deck-sound : (lines : List (List ℕ)) (deck : Deck) → deck_of lines ≡ Ok deck → AllByRecursion SoundClause deck
 deck-sound = each-clause SoundClause clause-sound
 
 pub query-sound : (line : List ℕ) (q : Query) → read_query line ≡ Ok q → Sounds q

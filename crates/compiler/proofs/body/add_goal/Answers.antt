@@ -1,8 +1,8 @@
 use Rattle.std.proofs.Common.{◌≡◌, sym, refl, ap, subst, arith}
-use Rattle.symbols.specs.Symbols.{arity_at}
+use Rattle.symbol_table.specs.Symbols.{arity_at}
 use Rattle.compiler.specs.Places.{Run, before}
 use Rattle.compiler.specs.Tables.{laid, Ready}
-use Rattle.symbols.specs.Tables.{signature}
+use Rattle.symbol_table.specs.Tables.{signature}
 use Rattle.compiler.proofs.PlaceLaws.{run-within, run_up}
 use Rattle.compiler.proofs.TableLaws.{run-own}
 use Rattle.compiler.proofs.StepLaws.{goal-start, goal-empty, goal-turn, goal-size, goal-end, goal-room}

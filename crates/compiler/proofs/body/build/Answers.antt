@@ -4,7 +4,7 @@ use Rattle.compiler.specs.Places.{Run, gain}
 use Rattle.compiler.specs.Lines.{Sound}
 use Rattle.compiler.specs.Lawful.{Formed}
 use Rattle.compiler.specs.Tables.{laid}
-use Rattle.symbols.specs.Tables.{signature}
+use Rattle.symbol_table.specs.Tables.{signature}
 use Rattle.compiler.specs.Scripts.{goal as goal'}
 use Rattle.compiler.proofs.TableLaws.{structure-run}
 use Rattle.compiler.proofs.FlowLaws.{struck-put, struck-leaf}

@@ -4,11 +4,11 @@ use Rattle.lines.specs.Said.{terms_of, words_left}
 use Rattle.code.specs.Words.{decode}
 use Rattle.code.specs.Rules.{key_of}
 use Rattle.code.specs.WellFormed.{Kept}
-use Rattle.symbols.specs.Symbols.{arities_of}
-use Rattle.symbols.specs.Numbers.{Shorts, variables_after}
+use Rattle.symbol_table.specs.Symbols.{arities_of}
+use Rattle.symbol_table.specs.Numbers.{Shorts, variables_after}
 use Rattle.compiler.specs.Reading.{weight}
-use Rattle.symbols.specs.Tables.{signature}
-use Rattle.symbols.proofs.NumberLaws.{names-long}
+use Rattle.symbol_table.specs.Tables.{signature}
+use Rattle.symbol_table.proofs.NumberLaws.{names-long}
 use Rattle.compiler.proofs.StepLaws.{hefts-is, parts-long}
 use Rattle.compiler.proofs.CompileLaws.{short-terms, Parsed, parsed, predicates-long, items-long, parts-of, cut}
 use Rattle.compiler.proofs.compile.compile_over.Goals as goal

@@ -2,7 +2,7 @@ use Rattle.std.proofs.Common.{◌≡◌, suc, ◌+◌, ◌-◌, ◌<◌, length,
 use Rattle.horn.specs.Notation.{arity}
 use Rattle.lines.specs.Said.{words_left}
 use Rattle.lines.specs.Tokens.{word}
-use Rattle.symbols.specs.Tables.{signature}
+use Rattle.symbol_table.specs.Tables.{signature}
 use Rattle.compiler.proofs.FlattenSteps.{Flattening, flat_start, knows-next, short-next, goal-room, goal-next, argument-room, argument-next, goals-end, arguments-end, after-end, take-push}
 use Rattle.compiler.proofs.flatten.flatten.Goals as goal
 

@@ -1,6 +1,6 @@
 use Rattle.std.proofs.Common.{◌+◌, ◌*◌, ◌≤◌, length, take}
 use Rattle.lines.specs.Said.{words_left}
-use Rattle.symbols.specs.Tables.{signature}
+use Rattle.symbol_table.specs.Tables.{signature}
 use Rattle.compiler.proofs.FlattenSteps.{Flattening}
 use Rattle.compiler.proofs.flatten.flatten.Given as goal
 

@@ -1,8 +1,8 @@
 use Rattle.std.proofs.Common.{◌+◌, take, sym, refl, ap, ◌∙◌, subst, arith}
-use Rattle.symbols.specs.Symbols.{arity_at}
+use Rattle.symbol_table.specs.Symbols.{arity_at}
 use Rattle.compiler.specs.Emits.{Rowed}
 use Rattle.compiler.specs.Tables.{laid, Ready}
-use Rattle.symbols.specs.Tables.{signature}
+use Rattle.symbol_table.specs.Tables.{signature}
 use Rattle.compiler.specs.declared.rows.Role.TheVariants.{Gets}
 use Rattle.compiler.proofs.PlaceLaws.{run-within}
 use Rattle.compiler.proofs.TableLaws.{run-hop, run-own}

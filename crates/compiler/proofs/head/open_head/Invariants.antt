@@ -1,5 +1,5 @@
 use Rattle.std.proofs.Common.{take}
-use Rattle.symbols.specs.Symbols.{arity_at}
+use Rattle.symbol_table.specs.Symbols.{arity_at}
 use Rattle.compiler.specs.Output.{Onto}
 use Rattle.compiler.specs.Steps.{HeadUpTo}
 use Rattle.compiler.specs.Tables.{laid}

@@ -3,7 +3,7 @@ use Rattle.compiler.specs.Terms.{hop}
 use Rattle.compiler.specs.Places.{Run, gain}
 use Rattle.compiler.specs.Lines.{Sound}
 use Rattle.compiler.specs.Tables.{laid}
-use Rattle.symbols.specs.Tables.{signature}
+use Rattle.symbol_table.specs.Tables.{signature}
 use Rattle.compiler.specs.Scripts.{inside}
 use Rattle.compiler.proofs.TableLaws.{structure-run}
 use Rattle.compiler.proofs.FlowLaws.{struck-get, struck-leaf}

@@ -1,7 +1,7 @@
 use Rattle.std.proofs.Common.{◌≡◌, [], refl, subst, arith, rules}
 use Rattle.compiler.specs.Places.{Ends}
 use Rattle.compiler.specs.Lines.{plan}
-use Rattle.symbols.specs.Tables.{signature}
+use Rattle.symbol_table.specs.Tables.{signature}
 use Rattle.compiler.proofs.TableLaws.{ends-none, turn-run, turn-ends}
 use Rattle.compiler.proofs.places.find_places.Goals as goal
 

@@ -1,7 +1,7 @@
 use Rattle.std.proofs.Common.{[]}
 use Rattle.compiler.specs.Places.{Ends}
 use Rattle.compiler.specs.Lines.{plan}
-use Rattle.symbols.specs.Tables.{signature}
+use Rattle.symbol_table.specs.Tables.{signature}
 use Rattle.compiler.proofs.places.find_places.Given as goal
 
 abbrev pub invariant-loop-i : goal.invariant-loop-i

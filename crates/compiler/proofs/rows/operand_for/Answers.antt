@@ -1,7 +1,7 @@
 use Rattle.std.proofs.Common.{refl, subst}
 use Rattle.compiler.specs.Lines.{Sound}
 use Rattle.compiler.specs.Tables.{laid}
-use Rattle.symbols.specs.Tables.{signature}
+use Rattle.symbol_table.specs.Tables.{signature}
 use Rattle.compiler.proofs.TableLaws.{numbered-at}
 use Rattle.compiler.proofs.FillLaws.{chosen, chosen-constant}
 use Rattle.compiler.proofs.rows.operand_for.Goals as goal

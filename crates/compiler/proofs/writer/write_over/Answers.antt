@@ -1,9 +1,9 @@
 use Rattle.std.proofs.Common.{◌≡◌, ℕ, ◌-◌, ◌≤◌, Bool, false, [], length, take, replicate, refl, ap, ◌∙◌, subst, arith}
 use lib.ListN.{length-replicate}
-use Rattle.symbols.specs.Symbols.{Signature}
+use Rattle.symbol_table.specs.Symbols.{Signature}
 use Rattle.compiler.specs.Lines.{plan}
-use Rattle.symbols.specs.Tables.{signature}
-use Rattle.symbols.proofs.SymbolLaws.{signature-long, signature-small}
+use Rattle.symbol_table.specs.Tables.{signature}
+use Rattle.symbol_table.proofs.SymbolLaws.{signature-long, signature-small}
 use Rattle.compiler.proofs.StepLaws.{Coded, hefts-is, parts-long, before-all, take-false, ready_made, all-empty, slot-below, ends-any, coded}
 use Rattle.compiler.proofs.OutputLaws.{onto-then}
 use Rattle.compiler.proofs.RuleLaws.{wrote}

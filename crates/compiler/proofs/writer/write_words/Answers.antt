@@ -1,10 +1,10 @@
 use Rattle.std.proofs.Common.{◌≡◌, ◌≤◌, length, get_or, sym, refl, ap, ◌∙◌, subst, arith}
 use Rattle.horn.specs.Terms.{count}
-use Rattle.symbols.specs.Symbols.{arity_at}
+use Rattle.symbol_table.specs.Symbols.{arity_at}
 use Rattle.compiler.specs.Terms.{hop}
 use Rattle.compiler.specs.Places.{Run, before}
 use Rattle.compiler.specs.Tables.{laid, table, Ready}
-use Rattle.symbols.specs.Tables.{signature}
+use Rattle.symbol_table.specs.Tables.{signature}
 use Rattle.compiler.proofs.ReadLaws.{stack}
 use Rattle.compiler.proofs.PlaceLaws.{run-within, run_up}
 use Rattle.compiler.proofs.TableLaws.{run-own, run-to}

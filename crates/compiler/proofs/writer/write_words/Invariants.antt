@@ -4,7 +4,7 @@ use Rattle.compiler.specs.Reading.{arities}
 use Rattle.compiler.specs.Output.{Onto}
 use Rattle.compiler.specs.Steps.{BodyUpTo}
 use Rattle.compiler.specs.Tables.{laid}
-use Rattle.symbols.specs.Tables.{signature}
+use Rattle.symbol_table.specs.Tables.{signature}
 use Rattle.compiler.proofs.ReadLaws.{stack}
 use Rattle.compiler.proofs.writer.write_words.Given as goal
 

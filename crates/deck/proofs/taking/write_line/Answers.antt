@@ -1,6 +1,6 @@
 use Rattle.std.proofs.Common.{◌≡◌, ◌+◌, length, take, drop, sym, refl, ap, ◌∙◌, arith, take_all, rules}
 use lib.Seq.{take-set-le}
-use Rattle.symbols.proofs.NameLaws.{name-turn}
+use Rattle.symbol_table.proofs.NameLaws.{name-turn}
 use Rattle.deck.proofs.taking.write_line.Goals as goal
 
 pub loop-i-init : goal.loop-i-init

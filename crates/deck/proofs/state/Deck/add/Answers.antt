@@ -2,15 +2,15 @@ use Rattle.std.proofs.Common.{◌≡◌, ℕ, ◌+◌, ◌<◌, ◌≤◌, [], l
 use Rattle.horn.specs.Weights.{clause_weight}
 use Rattle.lines.specs.Clauses.{read_clause}
 use Rattle.lines.specs.Said.{terms_of, words_left}
-use Rattle.symbols.specs.Symbols.{Signature}
-use Rattle.symbols.specs.Numbers.{note_words}
-use Rattle.symbols.specs.Tables.{signature}
-use Rattle.symbols.proofs.SymbolLaws.{up_to-long, signature-long}
-use Rattle.symbols.proofs.NameLaws.{set_below}
-use Rattle.symbols.specs.Noting.{Fines}
+use Rattle.symbol_table.specs.Symbols.{Signature}
+use Rattle.symbol_table.specs.Numbers.{note_words}
+use Rattle.symbol_table.specs.Tables.{signature}
+use Rattle.symbol_table.proofs.SymbolLaws.{up_to-long, signature-long}
+use Rattle.symbol_table.proofs.NameLaws.{set_below}
+use Rattle.symbol_table.specs.Noting.{Fines}
 use Rattle.deck.specs.Decks.{Contents, words_in, extended, reply, after}
 use Rattle.deck.specs.Held.{line_in, contents}
-use Rattle.symbols.proofs.NoteLaws.{begins-long, fine-terms}
+use Rattle.symbol_table.proofs.NoteLaws.{begins-long, fine-terms}
 use Rattle.deck.proofs.AddLaws.{Spelt, spelt, adding-1, adding-2, adding-3, adding-ok, begins-take, line-more}
 use Rattle.deck.proofs.state.Deck.add.Goals as goal
 use Rattle.deck.proofs.state.Deck.add.Goals.{In_ok-clause}

@@ -1,5 +1,5 @@
 use Rattle.std.proofs.Common.{arith}
-use Rattle.symbols.proofs.NameLaws.{zeros}
+use Rattle.symbol_table.proofs.NameLaws.{zeros}
 use Rattle.deck.proofs.state.Deck.new.Goals as goal
 
 pub invariant_of-result : goal.invariant_of-result

@@ -1,6 +1,0 @@
-use Rattle.std.proofs.Common.{sym, rules}
-use Rattle.symbols.proofs.SymbolLaws.{signature-long}
-use Rattle.symbols.proofs.table.SymbolTable.len.Goals as goal
-
-pub returns : goal.returns
-returns c = record { value = sym (signature-long c.args.self.now); few = search rules }
