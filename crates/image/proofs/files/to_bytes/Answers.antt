@@ -1,15 +1,15 @@
-use Rattle.std.proofs.Common.{◌+◌, ◌^◌, ◌<◌, ◌++◌, drop, vec_items, sym, ap, ◌∙◌}
+use Rattle.std.proofs.Common.{◌^◌, ◌<◌, vec_items, sym, ap, ◌∙◌}
 use Rattle.std.proofs.ByRecursion.{All-from_get_or}
-use Rattle.image.specs.Bytes.{bytes_of, words_of}
+use Rattle.image.specs.Bytes.{words_of}
 use Rattle.image.proofs.FileLaws.{bytes-more, bytes-done, read_back}
 use Rattle.image.proofs.files.to_bytes.Goals as goal
 
 pub loop-w-preserved : goal.loop-w-preserved
 loop-w-preserved c =
     let ws = c.args.words.now in
-    let i = c.loop-w.w-index in
     let items = c.in_ok-extend_from_slice.ensures.items in
-    ap (λ l. l ++ bytes_of (drop (i + 1) ws)) (items ∙ ap (λ b. vec_items c.loop-w.out ++ b) c.to_le_bytes-bytes.ensures) ∙ bytes-more _ ws i c.loop-w-test.true ∙ c.loop-w.invariant
+    let more = bytes-more (vec_items c.loop-w.out) ws c.loop-w.w-index c.loop-w-test.true in
+    cc (items, more, c.loop-w.invariant)
 
 pub returns : goal.returns
 returns c =
