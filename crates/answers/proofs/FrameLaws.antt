@@ -27,8 +27,8 @@ Chain w n (f ∷ fs) = Fits w n f × AllByRecursion (λ g. w g.owner < w f.owner
 abbrev pub onward : Frame → Frame
 onward f = record { owner = f.owner; next = f.next + 1; left = f.left - 1 }
 
-pub length-added : (f : Frame) (fs : List Frame) → 0 < f.left → length (added f fs) ≡ length fs + 1
-length-added f fs h = go (eqb f.left 0) refl
+pub length_added : (f : Frame) (fs : List Frame) → 0 < f.left → length (added f fs) ≡ length fs + 1
+length_added f fs h = go (eqb f.left 0) refl
   where
     go : (t : Bool) → eqb f.left 0 ≡ t → length (cond t fs (fs ++ f ∷ [])) ≡ length fs + 1
     go true e = absurd (omega (arith, eqb-true f.left 0 e))
@@ -39,65 +39,65 @@ all_pop P [] f h = (tt, h.0)
 all_pop P (g ∷ fs) f h = let r = all_pop P fs f h.1 in ((h.0, r.0), r.1)
 
 module _ (w : ℕ → ℕ) (n : ℕ) where
-  chain-push : (fs : List Frame) (f : Frame) → Chain w n fs → Fits w n f → Above w (w f.owner) fs → Chain w n (fs ++ f ∷ [])
-  chain-push [] f h p a = (p, tt, tt)
-  chain-push (g ∷ fs) f h p a = (h.0, All-push (λ e. w e.owner < w g.owner) fs f h.1 a.0, chain-push fs f h.2 p a.1)
+  chain_push : (fs : List Frame) (f : Frame) → Chain w n fs → Fits w n f → Above w (w f.owner) fs → Chain w n (fs ++ f ∷ [])
+  chain_push [] f h p a = (p, tt, tt)
+  chain_push (g ∷ fs) f h p a = (h.0, All-push (λ e. w e.owner < w g.owner) fs f h.1 a.0, chain_push fs f h.2 p a.1)
 
-  chain-pop : (fs : List Frame) (f : Frame) → Chain w n (fs ++ f ∷ []) → Chain w n fs × Fits w n f × Above w (w f.owner) fs
-  chain-pop [] f h = (tt, h.0, tt)
-  chain-pop (g ∷ fs) f h =
-      let r = chain-pop fs f h.2 in
+  chain_pop : (fs : List Frame) (f : Frame) → Chain w n (fs ++ f ∷ []) → Chain w n fs × Fits w n f × Above w (w f.owner) fs
+  chain_pop [] f h = (tt, h.0, tt)
+  chain_pop (g ∷ fs) f h =
+      let r = chain_pop fs f h.2 in
       let a = all_pop (λ e. w e.owner < w g.owner) fs f h.1 in
       ((h.0, a.0, r.0), r.1, (a.1, r.2))
 
-  above-less : (m k : ℕ) (fs : List Frame) → k ≤ m → Above w m fs → Above w k fs
-  above-less m k fs le a = All-weaker (λ f. m < w f.owner) (λ f. k < w f.owner) (λ f l. omega arith) fs a
+  above_less : (m k : ℕ) (fs : List Frame) → k ≤ m → Above w m fs → Above w k fs
+  above_less m k fs le a = All-weaker (λ f. m < w f.owner) (λ f. k < w f.owner) (λ f l. omega arith) fs a
 
   -- no more frames than cells
   abbrev owners : List Frame → List ℕ
   owners [] = []
   owners (f ∷ fs) = f.owner ∷ owners fs
 
-  length-owners : (fs : List Frame) → length (owners fs) ≡ length fs
-  length-owners [] = refl
-  length-owners (f ∷ fs) = ap suc (length-owners fs)
+  length_owners : (fs : List Frame) → length (owners fs) ≡ length fs
+  length_owners [] = refl
+  length_owners (f ∷ fs) = ap suc (length_owners fs)
 
-  free-owner : (o : ℕ) (fs : List Frame) → AllByRecursion (λ g. w g.owner < w o) fs → Free o (owners fs)
-  free-owner o [] h = tt
-  free-owner o (g ∷ fs) h = ((λ e. let l = h.0 in omega (arith, ap w e)), free-owner o fs h.1)
+  free_owner : (o : ℕ) (fs : List Frame) → AllByRecursion (λ g. w g.owner < w o) fs → Free o (owners fs)
+  free_owner o [] h = tt
+  free_owner o (g ∷ fs) h = ((λ e. let l = h.0 in omega (arith, ap w e)), free_owner o fs h.1)
 
   different : (fs : List Frame) → Chain w n fs → Different (owners fs)
   different [] h = tt
-  different (f ∷ fs) h = (free-owner f.owner fs h.1, different fs h.2)
+  different (f ∷ fs) h = (free_owner f.owner fs h.1, different fs h.2)
 
   under : (fs : List Frame) → Chain w n fs → AllByRecursion (λ x. x < n) (owners fs)
   under [] h = tt
   under (f ∷ fs) h = (h.0.owned, under fs h.2)
 
   pub depth : (fs : List Frame) → Chain w n fs → length fs ≤ n
-  depth fs h = omega (arith, length-owners fs, pigeons n (owners fs) (different fs h) (under fs h))
+  depth fs h = omega (arith, length_owners fs, pigeons n (owners fs) (different fs h) (under fs h))
 
   -- the frame of a structure that is smaller than all owners goes on top
-  pub chain-added : (fs : List Frame) (f : Frame) → Chain w n fs → (0 < f.left → Fits w n f) → Above w (w f.owner) fs → Chain w n (added f fs)
-  chain-added fs f h p a = go (eqb f.left 0) refl
+  pub chain_added : (fs : List Frame) (f : Frame) → Chain w n fs → (0 < f.left → Fits w n f) → Above w (w f.owner) fs → Chain w n (added f fs)
+  chain_added fs f h p a = go (eqb f.left 0) refl
     where
       go : (t : Bool) → eqb f.left 0 ≡ t → Chain w n (cond t fs (fs ++ f ∷ []))
       go true e = h
-      go false e = let ne = eqb-false f.left 0 e in chain-push fs f h (p (omega arith)) a
+      go false e = let ne = eqb-false f.left 0 e in chain_push fs f h (p (omega arith)) a
 
-  above-added : (m : ℕ) (fs : List Frame) (f : Frame) → Above w m fs → m < w f.owner → Above w m (added f fs)
-  above-added m fs f a l = elim (eqb f.left 0) as (λ t. Above w m (cond t fs (fs ++ f ∷ []))) [ true ↦ a | false ↦ All-push (λ g. m < w g.owner) fs f a l ]
+  above_added : (m : ℕ) (fs : List Frame) (f : Frame) → Above w m fs → m < w f.owner → Above w m (added f fs)
+  above_added m fs f a l = elim (eqb f.left 0) as (λ t. Above w m (cond t fs (fs ++ f ∷ []))) [ true ↦ a | false ↦ All-push (λ g. m < w g.owner) fs f a l ]
 
   -- the top frame gives its next argument, and stays with the others
   pub chain_next : (fs gs hs : List Frame) (f : Frame) → gs ≡ fs ++ f ∷ [] → hs ≡ added (onward f) fs → Chain w n gs → Chain w n hs × Above w (w f.next) hs × Fits w n f
   chain_next fs gs hs f e k h =
-      let r = chain-pop fs f (subst (Chain w n) e h) in
+      let r = chain_pop fs f (subst (Chain w n) e h) in
       let fit = r.1 in
       let l : w f.next < w f.owner = fit.smaller f.next (omega arith) (omega (arith, fit.some)) in (
         subst (Chain w n) (sym k)
-            (chain-added fs (onward f) r.0
+            (chain_added fs (onward f) r.0
             (λ some. record { owned = fit.owned; some = some; within = omega (arith, fit.within, fit.some); smaller = λ j lo hi. fit.smaller j (omega arith) (omega arith) })
             r.2),
-        subst (Above w (w f.next)) (sym k) (above-added (w f.next) fs (onward f) (above-less (w f.owner) (w f.next) fs (omega arith) r.2) l),
+        subst (Above w (w f.next)) (sym k) (above_added (w f.next) fs (onward f) (above_less (w f.owner) (w f.next) fs (omega arith) r.2) l),
         fit,
       )

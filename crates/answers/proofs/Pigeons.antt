@@ -15,17 +15,17 @@ abbrev remove : ℕ → List ℕ → List ℕ
 remove m [] = []
 remove m (x ∷ xs) = cond (eqb x m) xs (x ∷ remove m xs)
 
-length-remove : (m : ℕ) (xs : List ℕ) → length xs ≤ suc (length (remove m xs))
-length-remove m [] = omega arith
-length-remove m (x ∷ xs) = elim (eqb x m) as (λ t. suc (length xs) ≤ suc (length (cond t xs (x ∷ remove m xs)))) [ true ↦ omega arith | false ↦ omega (arith, length-remove m xs) ]
+length_remove : (m : ℕ) (xs : List ℕ) → length xs ≤ suc (length (remove m xs))
+length_remove m [] = omega arith
+length_remove m (x ∷ xs) = elim (eqb x m) as (λ t. suc (length xs) ≤ suc (length (cond t xs (x ∷ remove m xs)))) [ true ↦ omega arith | false ↦ omega (arith, length_remove m xs) ]
 
 all_remove : (P : ℕ → Type 0) (m : ℕ) (xs : List ℕ) → AllByRecursion P xs → AllByRecursion P (remove m xs)
 all_remove P m [] h = tt
 all_remove P m (x ∷ xs) h = elim (eqb x m) as (λ t. AllByRecursion P (cond t xs (x ∷ remove m xs))) [ true ↦ h.1 | false ↦ (h.0, all_remove P m xs h.1) ]
 
-different-remove : (m : ℕ) (xs : List ℕ) → Different xs → Different (remove m xs)
-different-remove m [] h = tt
-different-remove m (x ∷ xs) h = elim (eqb x m) as (λ t. Different (cond t xs (x ∷ remove m xs))) [ true ↦ h.1 | false ↦ (all_remove (λ y. y ≡ x → ⊥) m xs h.0, different-remove m xs h.1) ]
+different_remove : (m : ℕ) (xs : List ℕ) → Different xs → Different (remove m xs)
+different_remove m [] h = tt
+different_remove m (x ∷ xs) h = elim (eqb x m) as (λ t. Different (cond t xs (x ∷ remove m xs))) [ true ↦ h.1 | false ↦ (all_remove (λ y. y ≡ x → ⊥) m xs h.0, different_remove m xs h.1) ]
 
 gone : (m : ℕ) (xs : List ℕ) → Different xs → Free m (remove m xs)
 gone m [] h = tt
@@ -45,7 +45,7 @@ pigeons zero (x ∷ xs) d u = absurd (let l = u.0 in omega arith)
 pigeons (suc m) (x ∷ xs) d u =
     omega (
       arith,
-      length-remove m (x ∷ xs),
-      pigeons m (remove m (x ∷ xs)) (different-remove m (x ∷ xs) d)
+      length_remove m (x ∷ xs),
+      pigeons m (remove m (x ∷ xs)) (different_remove m (x ∷ xs) d)
           (tighter m (remove m (x ∷ xs)) (all_remove (λ y. y < suc m) m (x ∷ xs) u) (gone m (x ∷ xs) d)),
     )

@@ -23,8 +23,8 @@ module _ (line : List ℕ) (ρ : Valuation) (vars : List Variable) (us : List �
     abbrev v : Variable
     v = get_or vars i d
 
-    pub partly-next : i < length vars → told line ρ (drop i vars) m.vs ≡ told_one line ρ v m.vs ++ told line ρ (drop (i + 1) vars) (through (note eqb) (ρ v.cell) m.vs)
-    partly-next lt = at_drop_more (λ ws. told line ρ ws m.vs) vars i d lt
+    pub partly_next : i < length vars → told line ρ (drop i vars) m.vs ≡ told_one line ρ v m.vs ++ told line ρ (drop (i + 1) vars) (through (note eqb) (ρ v.cell) m.vs)
+    partly_next lt = at_drop_more (λ ws. told line ρ ws m.vs) vars i d lt
 
     pub partly_more : i < length vars → (Held' : List ℕ → Type 0) (numbers' : List ℕ) (seen' : ℕ) → Held' (m.done ++ told_one line ρ v m.vs) → Numbered (through (note eqb) (ρ v.cell) m.vs) numbers' seen'
         → Partly line ρ vars (i + 1) us Held' numbers' seen'
@@ -33,8 +33,8 @@ module _ (line : List ℕ) (ρ : Valuation) (vars : List Variable) (us : List �
       done = m.done ++ told_one line ρ v m.vs;
       held = h;
       numbered = n;
-      bytes = m.bytes ∙ ap (λ z. m.done ++ z) (partly-next lt) ∙ sym (append_assoc m.done (told_one line ρ v m.vs) _);
+      bytes = m.bytes ∙ ap (λ z. m.done ++ z) (partly_next lt) ∙ sym (append_assoc m.done (told_one line ρ v m.vs) _);
     }
 
-    pub partly-all : length vars ≤ i → m.done ≡ told line ρ vars us
-    partly-all le = sym (m.bytes ∙ ap (λ z. m.done ++ z) (at_drop_all (λ ws. told line ρ ws m.vs) vars i le) ∙ append-nil m.done)
+    pub partly_all : length vars ≤ i → m.done ≡ told line ρ vars us
+    partly_all le = sym (m.bytes ∙ ap (λ z. m.done ++ z) (at_drop_all (λ ws. told line ρ ws m.vs) vars i le) ∙ append-nil m.done)

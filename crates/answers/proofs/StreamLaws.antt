@@ -13,55 +13,55 @@ use Rattle.answers.specs.declared.frame.Frame.{Frame}
 use Rattle.answers.specs.Frames.{field_at, seen_at, frame_at, added, pending}
 use Rattle.answers.specs.Streams.{written, writtens}
 
-count-span : (ρ : Valuation) (i n : ℕ) → count (span ρ i n) ≡ n
-count-span ρ i zero = refl
-count-span ρ i (suc n) = ap suc (count-span ρ (suc i) n)
+count_span : (ρ : Valuation) (i n : ℕ) → count (span ρ i n) ≡ n
+count_span ρ i zero = refl
+count_span ρ i (suc n) = ap suc (count_span ρ (suc i) n)
 
-pub writtens-join : (ts us : Terms ℕ) (vs : List ℕ) → writtens (join ts us) vs ≡ writtens ts vs ++ writtens us (throughs (note eqb) ts vs)
-writtens-join nil us vs = refl
-writtens-join (cons t ts) us vs =
-    ap (λ z. written t vs ++ z) (writtens-join ts us (through (note eqb) t vs)) ∙ sym (append_assoc (written t vs) _ _)
+pub writtens_join : (ts us : Terms ℕ) (vs : List ℕ) → writtens (join ts us) vs ≡ writtens ts vs ++ writtens us (throughs (note eqb) ts vs)
+writtens_join nil us vs = refl
+writtens_join (cons t ts) us vs =
+    ap (λ z. written t vs ++ z) (writtens_join ts us (through (note eqb) t vs)) ∙ sym (append_assoc (written t vs) _ _)
 
-pub throughs-join : (ts us : Terms ℕ) (vs : List ℕ) → throughs (note eqb) (join ts us) vs ≡ throughs (note eqb) us (throughs (note eqb) ts vs)
-throughs-join nil us vs = refl
-throughs-join (cons t ts) us vs = throughs-join ts us (through (note eqb) t vs)
+pub throughs_join : (ts us : Terms ℕ) (vs : List ℕ) → throughs (note eqb) (join ts us) vs ≡ throughs (note eqb) us (throughs (note eqb) ts vs)
+throughs_join nil us vs = refl
+throughs_join (cons t ts) us vs = throughs_join ts us (through (note eqb) t vs)
 
 -- the terms of the frame's cells
 abbrev pub terms : Valuation → Frame → Terms ℕ
 terms ρ f = span ρ f.next f.left
 
 module _ (names : Naming) (ρ : Valuation) (i : ℕ) (rest : Terms ℕ) (vs : List ℕ) where
-  pub cell-written : (c : Cell) → Rooted c → Says names c i ρ → (c ≡ Unbound → ρ i ≡ var i)
+  pub cell_written : (c : Cell) → Rooted c → Says names c i ρ → (c ≡ Unbound → ρ i ≡ var i)
       → writtens (cons (ρ i) rest) vs ≡ field_at names c i vs ++ writtens (join (terms ρ (frame_at c i)) rest) (seen_at c i vs)
-  cell-written Unbound r s free = ap (λ t. writtens (cons t rest) vs) (free refl)
-  cell-written (Ref k) r s free = absurd r
-  cell-written (Node f n b) r s free =
+  cell_written Unbound r s free = ap (λ t. writtens (cons t rest) vs) (free refl)
+  cell_written (Ref k) r s free = absurd r
+  cell_written (Node f n b) r s free =
       ap (λ t. writtens (cons t rest) vs) s
-      ∙ ap (λ m. ((44 ∷ field (word_for (names f) m)) ++ writtens (span ρ b n) vs) ++ writtens rest (throughs (note eqb) (span ρ b n) vs)) (count-span ρ b n)
+      ∙ ap (λ m. ((44 ∷ field (word_for (names f) m)) ++ writtens (span ρ b n) vs) ++ writtens rest (throughs (note eqb) (span ρ b n) vs)) (count_span ρ b n)
       ∙ append_assoc (44 ∷ field (word_for (names f) n)) _ _
-      ∙ ap (λ z. (44 ∷ field (word_for (names f) n)) ++ z) (sym (writtens-join (span ρ b n) rest vs))
+      ∙ ap (λ z. (44 ∷ field (word_for (names f) n)) ++ z) (sym (writtens_join (span ρ b n) rest vs))
 
-  pub cell-seen : (c : Cell) → Rooted c → Says names c i ρ → (c ≡ Unbound → ρ i ≡ var i)
+  pub cell_seen : (c : Cell) → Rooted c → Says names c i ρ → (c ≡ Unbound → ρ i ≡ var i)
       → throughs (note eqb) (cons (ρ i) rest) vs ≡ throughs (note eqb) (join (terms ρ (frame_at c i)) rest) (seen_at c i vs)
-  cell-seen Unbound r s free = ap (λ t. throughs (note eqb) (cons t rest) vs) (free refl)
-  cell-seen (Ref k) r s free = absurd r
-  cell-seen (Node f n b) r s free = ap (λ t. throughs (note eqb) (cons t rest) vs) s ∙ sym (throughs-join (span ρ b n) rest vs)
+  cell_seen Unbound r s free = ap (λ t. throughs (note eqb) (cons t rest) vs) (free refl)
+  cell_seen (Ref k) r s free = absurd r
+  cell_seen (Node f n b) r s free = ap (λ t. throughs (note eqb) (cons t rest) vs) s ∙ sym (throughs_join (span ρ b n) rest vs)
 
-pub pending-push : (ρ : Valuation) (fs : List Frame) (g : Frame) (rest : Terms ℕ) → pending ρ (fs ++ g ∷ []) rest ≡ join (terms ρ g) (pending ρ fs rest)
-pending-push ρ [] g rest = refl
-pending-push ρ (f ∷ fs) g rest = pending-push ρ fs g (join (terms ρ f) rest)
+pub pending_push : (ρ : Valuation) (fs : List Frame) (g : Frame) (rest : Terms ℕ) → pending ρ (fs ++ g ∷ []) rest ≡ join (terms ρ g) (pending ρ fs rest)
+pending_push ρ [] g rest = refl
+pending_push ρ (f ∷ fs) g rest = pending_push ρ fs g (join (terms ρ f) rest)
 
-pub pending-added : (ρ : Valuation) (fs : List Frame) (g : Frame) → pending ρ (added g fs) nil ≡ join (terms ρ g) (pending ρ fs nil)
-pending-added ρ fs g = go (eqb g.left 0) refl
+pub pending_added : (ρ : Valuation) (fs : List Frame) (g : Frame) → pending ρ (added g fs) nil ≡ join (terms ρ g) (pending ρ fs nil)
+pending_added ρ fs g = go (eqb g.left 0) refl
   where
     go : (t : Bool) → eqb g.left 0 ≡ t → pending ρ (cond t fs (fs ++ g ∷ [])) nil ≡ join (terms ρ g) (pending ρ fs nil)
     go true e = ap (λ n. join (span ρ g.next n) (pending ρ fs nil)) (sym (eqb-true g.left 0 e))
-    go false e = pending-push ρ fs g nil
+    go false e = pending_push ρ fs g nil
 
 -- the first of a frame's terms, and the others
-pub span-first : (ρ : Valuation) (i n : ℕ) → 0 < n → span ρ i n ≡ cons (ρ i) (span ρ (i + 1) (n - 1))
-span-first ρ i zero h = absurd (omega arith)
-span-first ρ i (suc n) h =
+pub span_first : (ρ : Valuation) (i n : ℕ) → 0 < n → span ρ i n ≡ cons (ρ i) (span ρ (i + 1) (n - 1))
+span_first ρ i zero h = absurd (omega arith)
+span_first ρ i (suc n) h =
     let a : suc i ≡ i + 1 = omega arith in
     let b : n ≡ suc n - 1 = omega arith in
     ap₂ (λ j m. cons (ρ i) (span ρ j m)) a b

@@ -9,9 +9,9 @@ module _ {S : Type 0} {room : S → List ℕ → ℕ} {holds : S → List ℕ �
   puts_none t q = record { after = λ s o bs h. subst (holds s o t q) (sym (append-nil bs)) h }
 
   -- bytes that were refused, with more after them
-  pub puts-stop : {r : Bool} {t t' : S} {q q' xs all : List ℕ} (ys : List ℕ) → all ≡ xs ++ ys → r ≡ false
+  pub puts_stop : {r : Bool} {t t' : S} {q q' xs all : List ℕ} (ys : List ℕ) → all ≡ xs ++ ys → r ≡ false
       → Puts S room holds r t q t' q' xs → Puts S room holds false t q t' q' all
-  puts-stop {t = t} {t' = t'} {q = q} {q' = q'} {xs = xs} {all = all} ys e f p = record {
+  puts_stop {t = t} {t' = t'} {q = q} {q' = q'} {xs = xs} {all = all} ys e f p = record {
     after = λ s o bs h.
         let w : Took false (room s o) (holds s o t' q') (bs ++ xs) = subst (λ b. Took b (room s o) (holds s o t' q') (bs ++ xs)) f (p.after s o bs h) in
         (omega (arith, w.0, ap length e, length-append xs ys, length-append bs xs, length-append bs all), w.1);
@@ -27,15 +27,15 @@ module _ {S : Type 0} {room : S → List ℕ → ℕ} {holds : S → List ℕ �
   }
 
   -- the same bytes
-  pub puts-same : {r : Bool} {t t' : S} {q q' xs ys : List ℕ} → xs ≡ ys → Puts S room holds r t q t' q' xs → Puts S room holds r t q t' q' ys
-  puts-same {r = r} {t = t} {t' = t'} {q = q} {q' = q'} e p = subst (Puts S room holds r t q t' q') e p
+  pub puts_same : {r : Bool} {t t' : S} {q q' xs ys : List ℕ} → xs ≡ ys → Puts S room holds r t q t' q' xs → Puts S room holds r t q t' q' ys
+  puts_same {r = r} {t = t} {t' = t'} {q = q} {q' = q'} e p = subst (Puts S room holds r t q t' q') e p
 
   -- bytes that were taken lessen the room
-  pub puts-less : ((s : S) (o : List ℕ) → holds s o s o []) → ((s t : S) (o q bs : List ℕ) → holds s o t q bs → room t q + length bs ≡ room s o)
+  pub puts_less : ((s : S) (o : List ℕ) → holds s o s o []) → ((s t : S) (o q bs : List ℕ) → holds s o t q bs → room t q + length bs ≡ room s o)
       → {t t' : S} {q q' xs : List ℕ} → Puts S room holds true t q t' q' xs → room t' q' + length xs ≡ room t q
-  puts-less none less {t = t} {t' = t'} {q = q} {q' = q'} {xs = xs} p = less t t' q q' xs (p.after t q [] (none t q))
+  puts_less none less {t = t} {t' = t'} {q = q} {q' = q'} {xs = xs} p = less t t' q q' xs (p.after t q [] (none t q))
 
 -- where there is room, all is held
-pub took-all : (r : Bool) (room : ℕ) (Holding : List ℕ → Type 0) (bytes : List ℕ) → length bytes ≤ room → Took r room Holding bytes → Holding bytes
-took-all true room Holding bytes le w = w
-took-all false room Holding bytes le w = absurd (omega (arith, w.0))
+pub took_all : (r : Bool) (room : ℕ) (Holding : List ℕ → Type 0) (bytes : List ℕ) → length bytes ≤ room → Took r room Holding bytes → Holding bytes
+took_all true room Holding bytes le w = w
+took_all false room Holding bytes le w = absurd (omega (arith, w.0))

@@ -7,38 +7,38 @@ use Rattle.heap.specs.Heaps.{Heap, total, arity}
 use Rattle.heap.specs.declared.cell.Cell.TheVariants.{Ref, Node}
 use Rattle.cells.specs.States.{Fine}
 use Rattle.cells.specs.Growth.{placed, grown, fits, structured, Spare}
-use Rattle.cells.proofs.StateLaws.{placed-room, grown-room}
+use Rattle.cells.proofs.StateLaws.{placed_room, grown_room}
 
-total-refs : (H : Heap) (xs : List ℕ) → total arity (H ++ map Ref xs) ≡ total arity H
-total-refs [] [] = refl
-total-refs [] (x ∷ xs) = omega (arith, total-refs [] xs)
-total-refs (c ∷ H) xs = ap (λ n. arity c + n) (total-refs H xs)
+total_refs : (H : Heap) (xs : List ℕ) → total arity (H ++ map Ref xs) ≡ total arity H
+total_refs [] [] = refl
+total_refs [] (x ∷ xs) = omega (arith, total_refs [] xs)
+total_refs (c ∷ H) xs = ap (λ n. arity c + n) (total_refs H xs)
 
 -- k arguments are there
 module _ (H G : Heap) (xs : List ℕ) (k : ℕ) (have : G ≡ H ++ map Ref (take k xs)) (part : k ≤ length xs) where
-  pub refs-length : length G ≡ length H + k
-  refs-length = omega (arith, ap length have, length-append H (map Ref (take k xs)), length-map (take k xs) Ref, length-take-le k xs part)
+  pub refs_length : length G ≡ length H + k
+  refs_length = omega (arith, ap length have, length-append H (map Ref (take k xs)), length-map (take k xs) Ref, length-take-le k xs part)
 
-  pub refs-spare : (n : ℕ) → Fine H n → Spare G k
-  refs-spare n f = omega (arith, f.arguments, ap (total arity) have, total-refs H (take k xs), refs-length)
+  pub refs_spare : (n : ℕ) → Fine H n → Spare G k
+  refs_spare n f = omega (arith, f.arguments, ap (total arity) have, total_refs H (take k xs), refs_length)
 
-  pub refs-more : (G' : Heap) → k < length xs → length xs < cell_limit - length H → G' ≡ grown G (Ref (get_or xs k 0)) → G' ≡ H ++ map Ref (take (k + 1) xs)
-  refs-more G' lt room e =
-      e ∙ grown-room G (Ref (get_or xs k 0)) (omega (arith, refs-length)) ∙ ap (λ x. x ++ Ref (get_or xs k 0) ∷ []) have
+  pub refs_more : (G' : Heap) → k < length xs → length xs < cell_limit - length H → G' ≡ grown G (Ref (get_or xs k 0)) → G' ≡ H ++ map Ref (take (k + 1) xs)
+  refs_more G' lt room e =
+      e ∙ grown_room G (Ref (get_or xs k 0)) (omega (arith, refs_length)) ∙ ap (λ x. x ++ Ref (get_or xs k 0) ∷ []) have
       ∙ append_assoc H (map Ref (take k xs)) (Ref (get_or xs k 0) ∷ []) ∙ ap (λ x. H ++ x) (sym (map_more Ref xs k 0 lt))
 
   -- and then the structure
   module _ (all : length xs ≤ k) (room : length xs < cell_limit - length H) where
-    fits-room : fits H xs ≡ true
-    fits-room = lt-ltb (length xs) (cell_limit - length H) room
+    fits_room : fits H xs ≡ true
+    fits_room = lt-ltb (length xs) (cell_limit - length H) room
 
-    pub structure-value : (r : Option ℕ) → r ≡ placed G → r ≡ cond (fits H xs) (Some (length H + length xs)) None
-    structure-value r e =
-        let long : length G ≡ length H + length xs = omega (arith, refs-length) in
-        e ∙ placed-room G (omega arith) ∙ ap Some long ∙ ap (λ b. cond b (Some (length H + length xs)) None) (sym fits-room)
+    pub structure_value : (r : Option ℕ) → r ≡ placed G → r ≡ cond (fits H xs) (Some (length H + length xs)) None
+    structure_value r e =
+        let long : length G ≡ length H + length xs = omega (arith, refs_length) in
+        e ∙ placed_room G (omega arith) ∙ ap Some long ∙ ap (λ b. cond b (Some (length H + length xs)) None) (sym fits_room)
 
-    pub structure-cells : (G' : Heap) (f first : ℕ) → first ≡ length H → G' ≡ grown G (Node f (length xs) first) → G' ≡ cond (fits H xs) (structured H f xs) H
-    structure-cells G' f first at e =
-        e ∙ grown-room G (Node f (length xs) first) (omega (arith, refs-length))
+    pub structure_cells : (G' : Heap) (f first : ℕ) → first ≡ length H → G' ≡ grown G (Node f (length xs) first) → G' ≡ cond (fits H xs) (structured H f xs) H
+    structure_cells G' f first at e =
+        e ∙ grown_room G (Node f (length xs) first) (omega (arith, refs_length))
         ∙ ap₂ (λ x i. x ++ Node f (length xs) i ∷ []) (have ∙ ap (λ ys. H ++ map Ref ys) (take_all k xs all)) at
-        ∙ ap (λ b. cond b (structured H f xs) H) (sym fits-room)
+        ∙ ap (λ b. cond b (structured H f xs) H) (sym fits_room)

@@ -15,8 +15,8 @@ module _ (len : ℕ) (rows : List Row) (next first last : List ℕ) (r : Row) (b
   placed = get_or-set_same rows len r blank (omega arith)
 
   -- the first row of its symbol
-  noted-new : len ≤ b → Noted len rows (set rows len r) next (set next len none) first (set first r.symbol len) last (set last r.symbol len) r.symbol b
-  noted-new ge = record {
+  noted_new : len ≤ b → Noted len rows (set rows len r) next (set next len none) first (set first r.symbol len) last (set last r.symbol len) r.symbol b
+  noted_new ge = record {
     room = omega arith;
     same = λ i lt. ap (λ x. x.symbol) (kept i lt);
     here = ap (λ x. x.symbol) placed;
@@ -24,16 +24,16 @@ module _ (len : ℕ) (rows : List Row) (next first last : List ℕ) (r : Row) (b
     others = λ i lt ne. get_or-set_other next len i none 0 (λ e. absurd (omega arith));
     linked = λ lt. absurd (omega arith);
     heads = λ t ne. get_or-set_other first r.symbol t len 0 ne;
-    head-kept = λ lt. absurd (omega arith);
-    head-new = λ _. get_or-set_same first r.symbol len 0 (omega arith);
+    head_kept = λ lt. absurd (omega arith);
+    head_new = λ _. get_or-set_same first r.symbol len 0 (omega arith);
     tails = λ t ne. get_or-set_other last r.symbol t len 0 ne;
     tail = get_or-set_same last r.symbol len 0 (omega arith);
     was = was;
   }
 
   -- the next row after b
-  noted-linked : b < len → Noted len rows (set rows len r) next (set (set next len none) b len) first first last (set last r.symbol len) r.symbol b
-  noted-linked lt =
+  noted_linked : b < len → Noted len rows (set rows len r) next (set (set next len none) b len) first first last (set last r.symbol len) r.symbol b
+  noted_linked lt =
       let long : length (set next len none) ≡ 256 = length-set next len none ∙ nl in
       record {
         room = omega arith;
@@ -43,21 +43,21 @@ module _ (len : ℕ) (rows : List Row) (next first last : List ℕ) (r : Row) (b
         others = λ i il ne. get_or-set_other (set next len none) b i len 0 ne ∙ get_or-set_other next len i none 0 (λ e. absurd (omega arith));
         linked = λ _. get_or-set_same (set next len none) b len 0 (omega arith);
         heads = λ t ne. refl;
-        head-kept = λ _. refl;
-        head-new = λ ge. absurd (omega arith);
+        head_kept = λ _. refl;
+        head_new = λ ge. absurd (omega arith);
         tails = λ t ne. get_or-set_other last r.symbol t len 0 ne;
         tail = get_or-set_same last r.symbol len 0 (omega arith);
         was = was;
       }
 
-  pub chain-new : len ≤ b → ∥ Chained len rows next first last ∥₁ → ∥ Chained (len + 1) (set rows len r) (set next len none) (set first r.symbol len) (set last r.symbol len) ∥₁
-  chain-new ge t = ∥∥₁_elim t ∥∥₁_prop (λ h. ∣ chained_more _ _ _ _ _ _ _ _ _ _ b small (noted-new ge) h ∣₁)
+  pub chain_new : len ≤ b → ∥ Chained len rows next first last ∥₁ → ∥ Chained (len + 1) (set rows len r) (set next len none) (set first r.symbol len) (set last r.symbol len) ∥₁
+  chain_new ge t = ∥∥₁_elim t ∥∥₁_prop (λ h. ∣ chained_more _ _ _ _ _ _ _ _ _ _ b small (noted_new ge) h ∣₁)
 
-  pub chain-linked : b < len → ∥ Chained len rows next first last ∥₁ → ∥ Chained (len + 1) (set rows len r) (set (set next len none) b len) first (set last r.symbol len) ∥₁
-  chain-linked lt t = ∥∥₁_elim t ∥∥₁_prop (λ h. ∣ chained_more _ _ _ _ _ _ _ _ _ _ b small (noted-linked lt) h ∣₁)
+  pub chain_linked : b < len → ∥ Chained len rows next first last ∥₁ → ∥ Chained (len + 1) (set rows len r) (set (set next len none) b len) first (set last r.symbol len) ∥₁
+  chain_linked lt t = ∥∥₁_elim t ∥∥₁_prop (λ h. ∣ chained_more _ _ _ _ _ _ _ _ _ _ b small (noted_linked lt) h ∣₁)
 
-pub chain-none : (rows : List Row) (next first last : List ℕ) → ((s : ℕ) → s < 256 → get_or first s 0 ≡ none) → ((s : ℕ) → s < 256 → get_or last s 0 ≡ none) → ∥ Chained 0 rows next first last ∥₁
-chain-none rows next first last f l =
+pub chain_none : (rows : List Row) (next first last : List ℕ) → ((s : ℕ) → s < 256 → get_or first s 0 ≡ none) → ((s : ℕ) → s < 256 → get_or last s 0 ≡ none) → ∥ Chained 0 rows next first last ∥₁
+chain_none rows next first last f l =
     ∣ record {
       heads = λ s h. (λ i p. absurd (omega (arith, p.1)), λ lt. absurd (omega arith), λ lt. absurd (omega arith), λ _. f s h);
       steps = λ m h. absurd (omega arith);

@@ -19,14 +19,14 @@ module _ (len : ℕ) (rows : List Row) (next first last : List ℕ) (s after : �
   start_first = ∥∥₁_elim t (hlevel props) (λ h. ((h.heads s small).2, λ i p. (h.heads s small).0 i (omega arith, p.2, p.1, p.3)))
 
   -- where row `after` has the symbol
-  pub start-next : 0 < after → after ≤ len → symbol_at rows (after - 1) ≡ s → Starts len rows s after (get_or next (after - 1) 0)
-  start-next low within e =
+  pub start_next : 0 < after → after ≤ len → symbol_at rows (after - 1) ≡ s → Starts len rows s after (get_or next (after - 1) 0)
+  start_next low within e =
       ∥∥₁_elim t (hlevel props) (λ h.
       let step = h.steps (after - 1) (omega arith) in
       (λ lt. step.2 lt ∙ e, λ i p. step.0 i (omega (arith, p.0), p.2, p.1, p.3 ∙ sym e)))
 
-  pub walk-next : (key at : ℕ) → at < len → (after ≤ at → Clash key (key_at rows at)) → Walked len rows s key after at → Walked len rows s key after (get_or next at 0)
-  walk-next key at lt here w =
+  pub walk_next : (key at : ℕ) → at < len → (after ≤ at → Clash key (key_at rows at)) → Walked len rows s key after at → Walked len rows s key after (get_or next at 0)
+  walk_next key at lt here w =
       ∥∥₁_elim t (hlevel props) (λ h.
       let step = subst (λ k. Least len (symbol_at rows) k (at + 1) (get_or next at 0)) (w.0 lt) (h.steps at lt) in (
         step.2,
@@ -37,8 +37,8 @@ module _ (len : ℕ) (rows : List Row) (next first last : List ℕ) (s after : �
             (cases_lt i at),
       ))
 
-  pub walk-less : (at : ℕ) → at < len → len - get_or next at 0 < len - at
-  walk-less at lt =
+  pub walk_less : (at : ℕ) → at < len → len - get_or next at 0 < len - at
+  walk_less at lt =
       ∥∥₁_elim t (hlevel props) (λ h.
       ⊎_elim (λ (k : get_or next at 0 < len). let up = (h.steps at lt).1 k in omega arith) (λ (ge : len ≤ get_or next at 0). omega arith) (cases_lt (get_or next at 0) len))
 
@@ -51,8 +51,8 @@ module _ (len : ℕ) (rows : List Row) (s key after at : ℕ) (whole : length ro
       let same = row_is len rows whole i (omega arith) (omega arith) in
       subst (λ r. Clash key r.key) (sym same) (w.1 (i - 1) (omega arith, omega arith, omega arith, ap (λ r. r.symbol) (sym same) ∙ e))
 
-  pub walk-found : at < len → after ≤ at → (Clash key (key_at rows at) → ⊥) → Finds (take len rows) s key after (Some (at + 1))
-  walk-found lt low serves =
+  pub walk_found : at < len → after ≤ at → (Clash key (key_at rows at) → ⊥) → Finds (take len rows) s key after (Some (at + 1))
+  walk_found lt low serves =
       let back : at + 1 - 1 ≡ at = omega arith in
       let same = row_is len rows whole (at + 1) (omega arith) (omega arith) ∙ ap (λ i. get_or rows i blank) back in (
         record {
@@ -64,19 +64,19 @@ module _ (len : ℕ) (rows : List Row) (s key after at : ℕ) (whole : length ro
         λ c. serves (subst (λ r. Clash key r.key) same c),
       )
 
-  pub walk-done : len ≤ at → Finds (take len rows) s key after None
-  walk-done ge = subst (λ n. Passed (take len rows) s key after (n + 1)) (sym (told len rows whole within)) (passed (len + 1) (omega arith) (omega arith))
+  pub walk_done : len ≤ at → Finds (take len rows) s key after None
+  walk_done ge = subst (λ n. Passed (take len rows) s key after (n + 1)) (sym (told len rows whole within)) (passed (len + 1) (omega arith) (omega arith))
 
 -- what is found is a pick
-pub found-picks : (rows : List Row) (s key after : ℕ) (r : Option ℕ) → Finds rows s key after r → Picks rows s key after r
-found-picks rows s key after None f = f
-found-picks rows s key after (Some m) f = f.0
+pub found_picks : (rows : List Row) (s key after : ℕ) (r : Option ℕ) → Finds rows s key after r → Picks rows s key after r
+found_picks rows s key after None f = f
+found_picks rows s key after (Some m) f = f.0
 
 -- with a key that clashes with none, it is one for every key
-any-passed : (rows : List Row) (s key after m : ℕ) → Passed rows s 0 after m → Passed rows s key after m
-any-passed rows s key after m p i low lt e = let c = (p i low lt e).0 in absurd (omega arith)
+any_passed : (rows : List Row) (s key after m : ℕ) → Passed rows s 0 after m → Passed rows s key after m
+any_passed rows s key after m p i low lt e = let c = (p i low lt e).0 in absurd (omega arith)
 
-pub next-picks : (rows : List Row) (s key after : ℕ) (r : Option ℕ) → Finds rows s 0 after r → Picks rows s key after r
-next-picks rows s key after None f = any-passed rows s key after (length rows + 1) f
-next-picks rows s key after (Some m) f =
-    record { above = f.0.above; within = f.0.within; has = f.0.has; passed = any-passed rows s key after m f.0.passed }
+pub next_picks : (rows : List Row) (s key after : ℕ) (r : Option ℕ) → Finds rows s 0 after r → Picks rows s key after r
+next_picks rows s key after None f = any_passed rows s key after (length rows + 1) f
+next_picks rows s key after (Some m) f =
+    record { above = f.0.above; within = f.0.within; has = f.0.has; passed = any_passed rows s key after m f.0.passed }

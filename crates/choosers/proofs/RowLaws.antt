@@ -6,8 +6,8 @@ use Rattle.choosers.specs.declared.row.Row.{Row}
 use Rattle.choosers.specs.Rows.{blank, noted, row_of, row_at}
 
 -- row m, where there is one
-pub row-there : (rows : List Row) (m : ℕ) → 0 < m → m ≤ length rows → row_at rows m ≡ Some (row_of rows m)
-row-there rows m low le = cond-false _ _ _ (or_from (eqb m 0) (ltb (length rows) m) (ne_eqb m 0 (λ e. absurd (omega arith))) (le-ltb (length rows) m le))
+pub row_there : (rows : List Row) (m : ℕ) → 0 < m → m ≤ length rows → row_at rows m ≡ Some (row_of rows m)
+row_there rows m low le = cond-false _ _ _ (or_from (eqb m 0) (ltb (length rows) m) (ne_eqb m 0 (λ e. absurd (omega arith))) (le-ltb (length rows) m le))
 
 module _ (len : ℕ) (rows : List Row) (whole : length rows ≡ 256) where
   pub told : len ≤ 256 → length (take len rows) ≡ len
@@ -16,8 +16,8 @@ module _ (len : ℕ) (rows : List Row) (whole : length rows ≡ 256) where
   pub row_is : (m : ℕ) → 0 < m → m ≤ len → row_of (take len rows) m ≡ get_or rows (m - 1) blank
   row_is m low le = get_or-take len rows (m - 1) blank (omega arith)
 
-  pub row-some : (m : ℕ) → len ≤ 256 → 0 < m → m ≤ len → Some (get_or rows (m - 1) blank) ≡ row_at (take len rows) m
-  row-some m le low within = ap Some (sym (row_is m low within)) ∙ sym (row-there (take len rows) m low (omega (arith, told le)))
+  pub row_some : (m : ℕ) → len ≤ 256 → 0 < m → m ≤ len → Some (get_or rows (m - 1) blank) ≡ row_at (take len rows) m
+  row_some m le low within = ap Some (sym (row_is m low within)) ∙ sym (row_there (take len rows) m low (omega (arith, told le)))
 
   pub taken : len < 256 → true ≡ ltb (length (take len rows)) 256
   taken lt = sym (lt-ltb (length (take len rows)) 256 (omega (arith, told (omega arith))))

@@ -39,8 +39,8 @@ bumped t = go (ltb (min 2 t) 2) refl
     go true e = let l = ltb-true (min 2 t) 2 e in omega arith
     go false e = let l = ltb-false (min 2 t) 2 e in omega arith
 
-pub stands-noted : (counts : List ℕ) (N M : ℕ → ℕ) (b : ℕ) → Stands counts N → b ≤ 8 → ((a : ℕ) → M a ≡ cond (eqb b a) (suc (N a)) (N a)) → Stands (note_arg counts b) M
-stands-noted counts N M b s l m =
+pub stands_noted : (counts : List ℕ) (N M : ℕ → ℕ) (b : ℕ) → Stands counts N → b ≤ 8 → ((a : ℕ) → M a ≡ cond (eqb b a) (suc (N a)) (N a)) → Stands (note_arg counts b) M
+stands_noted counts N M b s l m =
     let v = bump (get_or counts b 0) in
     record {
       long = length-set counts b v ∙ s.long;
@@ -59,16 +59,16 @@ stands-noted counts N M b s l m =
 abbrev nones : List ℕ
 nones = replicate 9 0
 
-pub stands-none : (N : ℕ → ℕ) → ((a : ℕ) → N a ≡ 0) → Stands nones N
-stands-none N z = record { long = length-replicate {A = ℕ} 9 0; counted = λ a h. get_or-replicate {A = ℕ} 9 a 0 0 (omega arith) ∙ ap (min 2) (sym (z a)) }
+pub stands_none : (N : ℕ → ℕ) → ((a : ℕ) → N a ≡ 0) → Stands nones N
+stands_none N z = record { long = length-replicate {A = ℕ} 9 0; counted = λ a h. get_or-replicate {A = ℕ} 9 a 0 0 (omega arith) ∙ ap (min 2) (sym (z a)) }
 
 module _ (arg : Instruction → ℕ) (m : ℕ) (low : m ≤ 8) where
-  none-beyond : (ws : List Instruction) (b : ℕ) → every (λ w. leb (arg w) m) ws ≡ true → m < b → met arg ws b ≡ 0
-  none-beyond [] b h l = refl
-  none-beyond (w ∷ ws) b h l =
+  none_beyond : (ws : List Instruction) (b : ℕ) → every (λ w. leb (arg w) m) ws ≡ true → m < b → met arg ws b ≡ 0
+  none_beyond [] b h l = refl
+  none_beyond (w ∷ ws) b h l =
       let p = and_parts (leb (arg w) m) (every (λ w. leb (arg w) m) ws) h in
       let k = leb-true (arg w) m p.0 in
-      cond-false (eqb (arg w) b) _ _ (ne_eqb (arg w) b (λ e. omega arith)) ∙ none-beyond ws b p.1 l
+      cond-false (eqb (arg w) b) _ _ (ne_eqb (arg w) b (λ e. omega arith)) ∙ none_beyond ws b p.1 l
 
   less : (b : ℕ) (w : Instruction) (ws : List Instruction) → met arg (w ∷ ws) b ≡ 0 → (met arg ws b ≡ 0) × (arg w ≡ b → ⊥)
   less b w ws e = go (eqb (arg w) b) refl e
@@ -77,14 +77,14 @@ module _ (arg : Instruction → ℕ) (m : ℕ) (low : m ≤ 8) where
       go true q z = absurd (omega arith)
       go false q z = (z, eqb-false (arg w) b q)
 
-  all-within : (ws : List Instruction) → every (λ w. leb (arg w) 8) ws ≡ true → ((b : ℕ) → m < b → b ≤ 8 → met arg ws b ≡ 0) → every (λ w. leb (arg w) m) ws ≡ true
-  all-within [] h f = refl
-  all-within (w ∷ ws) h f =
+  all_within : (ws : List Instruction) → every (λ w. leb (arg w) 8) ws ≡ true → ((b : ℕ) → m < b → b ≤ 8 → met arg ws b ≡ 0) → every (λ w. leb (arg w) m) ws ≡ true
+  all_within [] h f = refl
+  all_within (w ∷ ws) h f =
       let p = and_parts (leb (arg w) 8) (every (λ w. leb (arg w) 8) ws) h in
       let k = leb-true (arg w) 8 p.0 in
       and_from (leb (arg w) m) (every (λ w. leb (arg w) m) ws)
       (elim (cases_lt m (arg w)) [ inl l ↦ absurd ((less (arg w) w ws (f (arg w) l k)).1 refl) | inr g ↦ le-leb (arg w) m g ])
-      (all-within ws p.1 (λ b l u. (less b w ws (f b l u)).0))
+      (all_within ws p.1 (λ b l u. (less b w ws (f b l u)).0))
 
   pub full_is : (counts : List ℕ) (ws : List Instruction) → Stands counts (met arg ws) → every (λ w. leb (arg w) 8) ws ≡ true → full m counts ≡ filled arg m ws
   full_is counts ws s small = both_true (full m counts) (filled arg m ws) into back
@@ -97,7 +97,7 @@ module _ (arg : Instruction → ℕ) (m : ℕ) (low : m ≤ 8) where
           let one : wanted m a ≡ 1 = cond-true (ltb a m) 1 0 (lt-ltb a m l) in
           let n = s.counted (a + 1) (omega arith) in
           eq-eqb (met arg ws (a + 1)) 1 (omega arith)))
-          (all-within ws small (λ b l u.
+          (all_within ws small (λ b l u.
           let a = b - 1 in
           let k : a + 1 ≡ b = omega arith in
           let q = eqb-true (get_or counts (a + 1) 0) (wanted m a) (below_at 8 (λ a. eqb (get_or counts (a + 1) 0) (wanted m a)) h a (omega arith)) in
@@ -117,18 +117,18 @@ module _ (arg : Instruction → ℕ) (m : ℕ) (low : m ≤ 8) where
                 let one : wanted m a ≡ 1 = cond-true (ltb a m) 1 0 (lt-ltb a m k) in
                 eq-eqb (get_or counts (a + 1) 0) (wanted m a) (omega arith)
             | inr g ↦
-                let q = none-beyond ws (a + 1) p.1 (omega arith) in
+                let q = none_beyond ws (a + 1) p.1 (omega arith) in
                 let none : wanted m a ≡ 0 = cond-false (ltb a m) 1 0 (le-ltb a m g) in
                 eq-eqb (get_or counts (a + 1) 0) (wanted m a) (omega arith)
           ])
 
 -- the head
-pub stands-notes : (arg : Instruction → ℕ) (ws : List Instruction) (counts : List ℕ) (N M : ℕ → ℕ) → Stands counts N → every (λ w. leb (arg w) 8) ws ≡ true → ((a : ℕ) → M a ≡ met arg ws a + N a) → Stands (notes arg counts ws) M
-stands-notes arg [] counts N M s h m = record { long = s.long; counted = λ a l. s.counted a l ∙ ap (min 2) (let e = m a in let q : N a ≡ M a = omega arith in q) }
-stands-notes arg (w ∷ ws) counts N M s h m =
+pub stands_notes : (arg : Instruction → ℕ) (ws : List Instruction) (counts : List ℕ) (N M : ℕ → ℕ) → Stands counts N → every (λ w. leb (arg w) 8) ws ≡ true → ((a : ℕ) → M a ≡ met arg ws a + N a) → Stands (notes arg counts ws) M
+stands_notes arg [] counts N M s h m = record { long = s.long; counted = λ a l. s.counted a l ∙ ap (min 2) (let e = m a in let q : N a ≡ M a = omega arith in q) }
+stands_notes arg (w ∷ ws) counts N M s h m =
     let p = and_parts (leb (arg w) 8) (every (λ w. leb (arg w) 8) ws) h in
     let K : ℕ → ℕ = λ a. cond (eqb (arg w) a) (suc (N a)) (N a) in
-    stands-notes arg ws (note_arg counts (arg w)) K M (stands-noted counts N K (arg w) s (leb-true (arg w) 8 p.0) (λ a. refl)) p.1 (λ a. step a (eqb (arg w) a) refl)
+    stands_notes arg ws (note_arg counts (arg w)) K M (stands_noted counts N K (arg w) s (leb-true (arg w) 8 p.0) (λ a. refl)) p.1 (λ a. step a (eqb (arg w) a) refl)
   where
     step : (a : ℕ) (t : Bool) → eqb (arg w) a ≡ t → M a ≡ met arg ws a + cond (eqb (arg w) a) (suc (N a)) (N a)
     step a true e =
@@ -140,15 +140,15 @@ stands-notes arg (w ∷ ws) counts N M s h m =
         let y : cond (eqb (arg w) a) (suc (N a)) (N a) ≡ N a = cond-false (eqb (arg w) a) _ _ e in
         let z = m a in omega arith
 
-pub head-is : (arg : Instruction → ℕ) (m : ℕ) → m ≤ 8 → (ws : List Instruction) → every (λ w. leb (arg w) 8) ws ≡ true → full m (notes arg nones ws) ≡ filled arg m ws
-head-is arg m low ws h =
-    full_is arg m low (notes arg nones ws) ws (stands-notes arg ws nones (λ a. 0) (met arg ws) (stands-none (λ a. 0) (λ a. refl)) h (λ a. omega arith)) h
+pub head_is : (arg : Instruction → ℕ) (m : ℕ) → m ≤ 8 → (ws : List Instruction) → every (λ w. leb (arg w) 8) ws ≡ true → full m (notes arg nones ws) ≡ filled arg m ws
+head_is arg m low ws h =
+    full_is arg m low (notes arg nones ws) ws (stands_notes arg ws nones (λ a. 0) (met arg ws) (stands_none (λ a. 0) (λ a. refl)) h (λ a. omega arith)) h
 
 -- the calls
-pub every-at : (xs : List ℕ) → every (λ a. leb a 8) xs ≡ true → (i : ℕ) → get_or xs i 0 ≤ 8
-every-at [] h i = omega arith
-every-at (x ∷ xs) h zero = leb-true x 8 (and_parts (leb x 8) (every (λ a. leb a 8) xs) h).0
-every-at (x ∷ xs) h (suc i) = every-at xs (and_parts (leb x 8) (every (λ a. leb a 8) xs) h).1 i
+pub every_at : (xs : List ℕ) → every (λ a. leb a 8) xs ≡ true → (i : ℕ) → get_or xs i 0 ≤ 8
+every_at [] h i = omega arith
+every_at (x ∷ xs) h zero = leb-true x 8 (and_parts (leb x 8) (every (λ a. leb a 8) xs) h).0
+every_at (x ∷ xs) h (suc i) = every_at xs (and_parts (leb x 8) (every (λ a. leb a 8) xs) h).1 i
 
 abbrev pub done : List ℕ → Bool
 done counts = true
@@ -161,7 +161,7 @@ module _ (ar : List ℕ) (low : every (λ a. leb a 8) ar ≡ true) where
       ≡ chosen o (λ p. filled put (get_or ar p 0) since && calls ar [] ws) (calls ar (w ∷ since) ws)
   turn counts since w ws s h None e a b = b
   turn counts since w ws s h (Some p) e a b =
-      go (full (get_or ar p 0) counts) ∙ ap (λ t. t && calls ar [] ws) (full_is put (get_or ar p 0) (every-at ar low p) counts since s h)
+      go (full (get_or ar p 0) counts) ∙ ap (λ t. t && calls ar [] ws) (full_is put (get_or ar p 0) (every_at ar low p) counts since s h)
     where
       go : (t : Bool) → onward (cond t (Some nones) None) (λ t. walk (call_next ar) done t ws) ≡ (t && calls ar [] ws)
       go true = a
@@ -173,20 +173,20 @@ module _ (ar : List ℕ) (low : every (λ a. leb a 8) ar ≡ true) where
   calls_are (w ∷ ws) counts since s h k =
       let p = and_parts (leb (put w) 8) (every (λ w. leb (put w) 8) ws) k in
       turn counts since w ws s h (called w) refl
-      (calls_are ws nones [] (stands-none (met put []) (λ a. refl)) refl p.1)
-      (calls_are ws (note_arg counts (put w)) (w ∷ since) (stands-noted counts (met put since) (met put (w ∷ since)) (put w) s (leb-true (put w) 8 p.0) (λ a. refl))
+      (calls_are ws nones [] (stands_none (met put []) (λ a. refl)) refl p.1)
+      (calls_are ws (note_arg counts (put w)) (w ∷ since) (stands_noted counts (met put since) (met put (w ∷ since)) (put w) s (leb-true (put w) 8 p.0) (λ a. refl))
       (and_from (leb (put w) 8) (every (λ w. leb (put w) 8) since) p.0 h) p.1)
 
-  pub calls-start : (ws : List Instruction) → every (λ w. leb (put w) 8) ws ≡ true → walk (call_next ar) done nones ws ≡ calls ar [] ws
-  calls-start ws k = calls_are ws nones [] (stands-none (met put []) (λ a. refl)) refl k
+  pub calls_start : (ws : List Instruction) → every (λ w. leb (put w) 8) ws ≡ true → walk (call_next ar) done nones ws ≡ calls ar [] ws
+  calls_start ws k = calls_are ws nones [] (stands_none (met put []) (λ a. refl)) refl k
 
 -- an argument by the word's place
-pub arg-at : (arg : Instruction → ℕ) (ws : List ℕ) (i : ℕ) → every (λ w. leb (arg w) 8) (map decode ws) ≡ true → i < length ws → arg (decode (get_or ws i 0)) ≤ 8
-arg-at arg [] i h l = absurd (omega arith)
-arg-at arg (w ∷ ws) zero h l = leb-true (arg (decode w)) 8 (and_parts (leb (arg (decode w)) 8) (every (λ w. leb (arg w) 8) (map decode ws)) h).0
-arg-at arg (w ∷ ws) (suc i) h l = arg-at arg ws i (and_parts (leb (arg (decode w)) 8) (every (λ w. leb (arg w) 8) (map decode ws)) h).1 (omega arith)
+pub arg_at : (arg : Instruction → ℕ) (ws : List ℕ) (i : ℕ) → every (λ w. leb (arg w) 8) (map decode ws) ≡ true → i < length ws → arg (decode (get_or ws i 0)) ≤ 8
+arg_at arg [] i h l = absurd (omega arith)
+arg_at arg (w ∷ ws) zero h l = leb-true (arg (decode w)) 8 (and_parts (leb (arg (decode w)) 8) (every (λ w. leb (arg w) 8) (map decode ws)) h).0
+arg_at arg (w ∷ ws) (suc i) h l = arg_at arg ws i (and_parts (leb (arg (decode w)) 8) (every (λ w. leb (arg w) 8) (map decode ws)) h).1 (omega arith)
 
-pub notes-turn : (arg : Instruction → ℕ) (ws : List ℕ) (i : ℕ) (counts next : List ℕ) → i < length ws → next ≡ note_arg counts (arg (decode (get_or ws i 0)))
+pub notes_turn : (arg : Instruction → ℕ) (ws : List ℕ) (i : ℕ) (counts next : List ℕ) → i < length ws → next ≡ note_arg counts (arg (decode (get_or ws i 0)))
     → notes arg counts (map decode (drop i ws)) ≡ notes arg next (map decode (drop (i + 1) ws))
-notes-turn arg ws i counts next h e =
+notes_turn arg ws i counts next h e =
     at_drop_more (λ l. notes arg counts (map decode l)) ws i 0 h ∙ ap (λ (l : List ℕ). notes arg l (map decode (drop (i + 1) ws))) (sym e)

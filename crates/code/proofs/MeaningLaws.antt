@@ -24,11 +24,11 @@ update_same a A π ρ t u e h b i = go (eqb b a) refl i
     go false q (inl same) = absurd (eqb-false b a q same)
     go false q (inr j) = h b j
 
-module _ (s : Symbols) (n m r : ℕ) (α β σ τ : Terming) (same-arguments : Alike (λ a. (0 < a) × (a ≤ n)) α β) (same-slots : Alike (λ y. y < m) σ τ) where
-  given-same : (o : Operand) (D : List ℕ) → Takes m D o → given s o σ ≡ given s o τ
-  given-same (Fresh y) D h = same-slots y h.0
-  given-same (Known y) D h = same-slots y h.0
-  given-same (Constant c) D h = refl
+module _ (s : Symbols) (n m r : ℕ) (α β σ τ : Terming) (same_arguments : Alike (λ a. (0 < a) × (a ≤ n)) α β) (same_slots : Alike (λ y. y < m) σ τ) where
+  given_same : (o : Operand) (D : List ℕ) → Takes m D o → given s o σ ≡ given s o τ
+  given_same (Fresh y) D h = same_slots y h.0
+  given_same (Known y) D h = same_slots y h.0
+  given_same (Constant c) D h = refl
 
   parts_same : (k : ℕ) (code : List Instruction) (D A : List ℕ) → Pieces k code → Ready s.arity n m r D A code → parts s k code σ ≡ parts s k code τ
   parts_same zero code D A h r = refl
@@ -36,47 +36,47 @@ module _ (s : Symbols) (n m r : ℕ) (α β σ τ : Terming) (same-arguments : A
   parts_same (suc k) (Allocate l ∷ code) D A h r = absurd h.0
   parts_same (suc k) (Get o a ∷ code) D A h r = absurd h.0
   parts_same (suc k) (GetStructure y f ∷ code) D A h r = absurd h.0
-  parts_same (suc k) (Unify o ∷ code) D A h r = ap₂ cons (given-same o D r.0) (parts_same k code (fills o D) A h.1 r.1)
+  parts_same (suc k) (Unify o ∷ code) D A h r = ap₂ cons (given_same o D r.0) (parts_same k code (fills o D) A h.1 r.1)
   parts_same (suc k) (Put o a ∷ code) D A h r = absurd h.0
   parts_same (suc k) (PutStructure y f ∷ code) D A h r = absurd h.0
-  parts_same (suc k) (Set o ∷ code) D A h r = ap₂ cons (given-same o D r.0) (parts_same k code (fills o D) A h.1 r.1)
+  parts_same (suc k) (Set o ∷ code) D A h r = ap₂ cons (given_same o D r.0) (parts_same k code (fills o D) A h.1 r.1)
   parts_same (suc k) (Call p ∷ code) D A h r = absurd h.0
   parts_same (suc k) (Proceed ∷ code) D A h r = absurd h.0
 
   says_same : (code : List Instruction) (D A : List ℕ) → Ready s.arity n m r D A code → Says s code α σ → Says s code β τ
   says_same [] D A r h = tt
   says_same (Allocate k ∷ code) D A r h = says_same code D A r h
-  says_same (Get o a ∷ code) D A r h = (sym (same-arguments a (r.0, r.1)) ∙ h.0 ∙ given-same o D r.2, says_same code (fills o D) A r.3 h.1)
-  says_same (GetStructure y f ∷ code) D A r h = (sym (same-slots y r.0) ∙ h.0 ∙ ap (node (s.name f)) (parts_same (s.arity f) code D A r.2 r.3), says_same code D A r.3 h.1)
+  says_same (Get o a ∷ code) D A r h = (sym (same_arguments a (r.0, r.1)) ∙ h.0 ∙ given_same o D r.2, says_same code (fills o D) A r.3 h.1)
+  says_same (GetStructure y f ∷ code) D A r h = (sym (same_slots y r.0) ∙ h.0 ∙ ap (node (s.name f)) (parts_same (s.arity f) code D A r.2 r.3), says_same code D A r.3 h.1)
   says_same (Unify o ∷ code) D A r h = says_same code (fills o D) A r.1 h
   says_same (Put o a ∷ code) D A r h = says_same code (fills o D) (a ∷ A) r.2 h
-  says_same (PutStructure y f ∷ code) D A r h = (sym (same-slots y r.0) ∙ h.0 ∙ ap (node (s.name f)) (parts_same (s.arity f) code (y ∷ D) A r.2 r.4), says_same code (y ∷ D) A r.4 h.1)
+  says_same (PutStructure y f ∷ code) D A r h = (sym (same_slots y r.0) ∙ h.0 ∙ ap (node (s.name f)) (parts_same (s.arity f) code (y ∷ D) A r.2 r.4), says_same code (y ∷ D) A r.4 h.1)
   says_same (Set o ∷ code) D A r h = says_same code (fills o D) A r.1 h
   says_same (Call p ∷ code) D A r h = says_same code D [] r.2 h
   says_same (Proceed ∷ code) D A r h = says_same code D A r h
 
-  goals-same : (code : List Instruction) (D A : List ℕ) → Ready s.arity n m r D A code → (π ρ : Terming) → ((a : ℕ) → In a A → π a ≡ ρ a) → goals s code σ π ≡ goals s code τ ρ
-  goals-same [] D A r π ρ h = refl
-  goals-same (Allocate k ∷ code) D A r π ρ h = goals-same code D A r π ρ h
-  goals-same (Get o a ∷ code) D A r π ρ h = goals-same code (fills o D) A r.3 π ρ h
-  goals-same (GetStructure y f ∷ code) D A r π ρ h = goals-same code D A r.3 π ρ h
-  goals-same (Unify o ∷ code) D A r π ρ h = goals-same code (fills o D) A r.1 π ρ h
-  goals-same (Put o a ∷ code) D A r π ρ h = goals-same code (fills o D) (a ∷ A) r.2 (update π a (given s o σ)) (update ρ a (given s o τ)) (update_same a A π ρ (given s o σ) (given s o τ) (given-same o D r.1) h)
-  goals-same (PutStructure y f ∷ code) D A r π ρ h = goals-same code (y ∷ D) A r.4 π ρ h
-  goals-same (Set o ∷ code) D A r π ρ h = goals-same code (fills o D) A r.1 π ρ h
-  goals-same (Call p ∷ code) D A r π ρ h = ap₂ (λ (ts gs : Terms ℕ). cons (node (s.name p) ts) gs) (span_same π ρ 1 (s.arity p) (λ a l u. h a (r.1 a (omega arith) (omega arith)))) (goals-same code D [] r.2 var var (λ a i. absurd i))
-  goals-same (Proceed ∷ code) D A r π ρ h = goals-same code D A r π ρ h
+  goals_same : (code : List Instruction) (D A : List ℕ) → Ready s.arity n m r D A code → (π ρ : Terming) → ((a : ℕ) → In a A → π a ≡ ρ a) → goals s code σ π ≡ goals s code τ ρ
+  goals_same [] D A r π ρ h = refl
+  goals_same (Allocate k ∷ code) D A r π ρ h = goals_same code D A r π ρ h
+  goals_same (Get o a ∷ code) D A r π ρ h = goals_same code (fills o D) A r.3 π ρ h
+  goals_same (GetStructure y f ∷ code) D A r π ρ h = goals_same code D A r.3 π ρ h
+  goals_same (Unify o ∷ code) D A r π ρ h = goals_same code (fills o D) A r.1 π ρ h
+  goals_same (Put o a ∷ code) D A r π ρ h = goals_same code (fills o D) (a ∷ A) r.2 (update π a (given s o σ)) (update ρ a (given s o τ)) (update_same a A π ρ (given s o σ) (given s o τ) (given_same o D r.1) h)
+  goals_same (PutStructure y f ∷ code) D A r π ρ h = goals_same code (y ∷ D) A r.4 π ρ h
+  goals_same (Set o ∷ code) D A r π ρ h = goals_same code (fills o D) A r.1 π ρ h
+  goals_same (Call p ∷ code) D A r π ρ h = ap₂ (λ (ts gs : Terms ℕ). cons (node (s.name p) ts) gs) (span_same π ρ 1 (s.arity p) (λ a l u. h a (r.1 a (omega arith) (omega arith)))) (goals_same code D [] r.2 var var (λ a i. absurd i))
+  goals_same (Proceed ∷ code) D A r π ρ h = goals_same code D A r π ρ h
 
 pub defined : (s : Symbols) (n m r : ℕ) (code : List Instruction) → Ready s.arity n m r [] [] code → Defined s n m code
 defined s n m r code h =
     record {
       says = λ α β σ τ p q. says_same s n m r α β σ τ p q code [] [] h;
-      leaves = λ σ τ π ρ q. goals-same s n m r var var σ τ (λ a l. refl) q code [] [] h π ρ (λ a i. absurd i);
+      leaves = λ σ τ π ρ q. goals_same s n m r var var σ τ (λ a l. refl) q code [] [] h π ρ (λ a i. absurd i);
     }
 
 -- code of the right length that denotes a clause is that clause's rule
-pub same-rule : (s : Symbols) (p : ℕ) (code : List Instruction) (c : Clause) → Denotes s p code c → length code ≡ clause_weight c + 2 → SameRule (code_rule s p code) (clause_rule c)
-same-rule s p code c d e =
+pub same_rule : (s : Symbols) (p : ℕ) (code : List Instruction) (c : Clause) → Denotes s p code c → length code ≡ clause_weight c + 2 → SameRule (code_rule s p code) (clause_rule c)
+same_rule s p code c d e =
     record {
       name = d.named;
       relates = λ ts gs. (d.into ts gs, d.back ts gs);

@@ -9,9 +9,9 @@ use Rattle.code.specs.Tests.{every, total, below, each_at, is}
 use Rattle.code.specs.Rules.{builds, set_before, ready, v5}
 use Rattle.code.specs.Passes.{held, can_read, can_set, marked, slot_pass, inside}
 
-pub below-ext : (n : ℕ) (p q : ℕ → Bool) → ((y : ℕ) → y < n → p y ≡ q y) → below n p ≡ below n q
-below-ext zero p q h = refl
-below-ext (suc n) p q h = ap₂ (λ (x y : Bool). x && y) (below-ext n p q (λ y l. h y (omega arith))) (h n (omega arith))
+pub below_ext : (n : ℕ) (p q : ℕ → Bool) → ((y : ℕ) → y < n → p y ≡ q y) → below n p ≡ below n q
+below_ext zero p q h = refl
+below_ext (suc n) p q h = ap₂ (λ (x y : Bool). x && y) (below_ext n p q (λ y l. h y (omega arith))) (h n (omega arith))
 
 pub below_false : (n : ℕ) (p : ℕ → Bool) (y : ℕ) → y < n → p y ≡ false → below n p ≡ false
 below_false zero p y l e = absurd (omega arith)
@@ -24,13 +24,13 @@ below_false (suc n) p y l e =
 pub below_more : (n : ℕ) (p : ℕ → Bool) → below (n + 1) p ≡ (below n p && p n)
 below_more n p = rw add-one refl
 
-pub each-ext : {X : Type 0} (xs : List X) (p q : ℕ → X → Bool) → ((j : ℕ) (x : X) → p j x ≡ q j x) → each_at p xs ≡ each_at q xs
-each-ext [] p q h = refl
-each-ext (x ∷ xs) p q h = ap₂ (λ (a b : Bool). a && b) (h 0 x) (each-ext xs (λ j. p (suc j)) (λ j. q (suc j)) (λ j y. h (suc j) y))
+pub each_ext : {X : Type 0} (xs : List X) (p q : ℕ → X → Bool) → ((j : ℕ) (x : X) → p j x ≡ q j x) → each_at p xs ≡ each_at q xs
+each_ext [] p q h = refl
+each_ext (x ∷ xs) p q h = ap₂ (λ (a b : Bool). a && b) (h 0 x) (each_ext xs (λ j. p (suc j)) (λ j. q (suc j)) (λ j y. h (suc j) y))
 
-true-right : (x : Bool) → x ≡ (x && true)
-true-right true = refl
-true-right false = refl
+true_right : (x : Bool) → x ≡ (x && true)
+true_right true = refl
+true_right false = refl
 
 abbrev pub noted : ℕ → ℕ
 noted t = cond (eqb t 0) 0 1
@@ -59,11 +59,11 @@ module _ (n : ℕ) (arities : List ℕ) where
   read_first i T w ws None = refl
   read_first i T w ws (Some y) =
       let e : i ≡ i + 0 = omega arith in
-      ap (held (get_or T y 0)) e ∙ or-false (held (get_or T y 0) (i + 0))
+      ap (held (get_or T y 0)) e ∙ or_false (held (get_or T y 0) (i + 0))
     where
-      or-false : (x : Bool) → x ≡ (x || false)
-      or-false true = refl
-      or-false false = refl
+      or_false : (x : Bool) → x ≡ (x || false)
+      or_false true = refl
+      or_false false = refl
 
   module _ (i : ℕ) (T : List ℕ) (w : Instruction) (ws : List Instruction) (long : n ≤ length T) where
     abbrev next : Option ℕ → List ℕ
@@ -96,8 +96,8 @@ module _ (n : ℕ) (arities : List ℕ) where
         let on : noted (get_or T z 0) ≡ 1 = cond-false (eqb (get_or T z 0) 0) 0 1 f in
         ne_eqb (times z (w ∷ ws) + noted (get_or T z 0)) 1 (λ x. omega arith))
 
-    leb-shift : (d j : ℕ) → leb (i + 1 + d) (i + 1 + j) ≡ leb d j
-    leb-shift d j = go (leb d j) refl
+    leb_shift : (d j : ℕ) → leb (i + 1 + d) (i + 1 + j) ≡ leb d j
+    leb_shift d j = go (leb d j) refl
       where
         go : (b : Bool) → leb d j ≡ b → leb (i + 1 + d) (i + 1 + j) ≡ b
         go true q = let l = leb-true d j q in le-leb (i + 1 + d) (i + 1 + j) (omega arith)
@@ -118,7 +118,7 @@ module _ (n : ℕ) (arities : List ℕ) where
           | inl q ↦
               let at : get_or (set T z t) y 0 ≡ t = ap (λ k. get_or (set T z t) k 0) (sym q) ∙ get_or-set_same T z t 0 (omega arith) in
               let off : held (get_or T y 0) (i + 1 + j) ≡ false = ap (λ b. not b && leb (get_or T y 0) (i + 1 + j)) (ap (λ k. eqb (get_or T k 0) 0) (sym q) ∙ f) in
-              let on : held (get_or (set T z t) y 0) (i + 1 + j) ≡ leb d j = ap (λ x. held x (i + 1 + j)) at ∙ ap (λ b. not b && leb t (i + 1 + j)) (ne_eqb t 0 (λ x. omega arith)) ∙ leb-shift d j in
+              let on : held (get_or (set T z t) y 0) (i + 1 + j) ≡ leb d j = ap (λ x. held x (i + 1 + j)) at ∙ ap (λ b. not b && leb t (i + 1 + j)) (ne_eqb t 0 (λ x. omega arith)) ∙ leb_shift d j in
               ap₂ (λ (a b : Bool). a || ((b && leb d j) || set_before arities ws y j)) off (eq-eqb z y q)
               ∙ ap (λ a. a || set_before arities ws y j) (sym on)
           | inr ne ↦
@@ -126,9 +126,9 @@ module _ (n : ℕ) (arities : List ℕ) where
               ap₂ (λ (a : ℕ) (b : Bool). held a (i + 1 + j) || ((b && leb d j) || set_before arities ws y j)) (sym at) (ne_eqb z y ne)
         ]
 
-    next-long : (o : Option ℕ) → n ≤ length (next o)
-    next-long None = long
-    next-long (Some z) = let e = length-set T z (i + 1 + builds arities w) in omega arith
+    next_long : (o : Option ℕ) → n ≤ length (next o)
+    next_long None = long
+    next_long (Some z) = let e = length-set T z (i + 1 + builds arities w) in omega arith
 
   module _ (i : ℕ) (T : List ℕ) (w : Instruction) (ws : List Instruction) (long : n ≤ length T) where
     abbrev T' : List ℕ
@@ -154,43 +154,43 @@ module _ (n : ℕ) (arities : List ℕ) where
     turn true true p q l ih =
         ih
         ∙ ap₂ (λ (a b : Bool). a && b)
-        (sym (below-ext n (once T (w ∷ ws)) (once T' ws) (λ y h. ap (λ k. eqb k 1) (counted i T w ws long (sets w) refl l q y))))
-        (sym (each-ext ws (λ j x. late i T (w ∷ ws) (suc j) (reads x)) (λ j x. late (i + 1) T' ws j (reads x)) (λ j x. moved i T w ws long (sets w) refl l q j (reads x))))
+        (sym (below_ext n (once T (w ∷ ws)) (once T' ws) (λ y h. ap (λ k. eqb k 1) (counted i T w ws long (sets w) refl l q y))))
+        (sym (each_ext ws (λ j x. late i T (w ∷ ws) (suc j) (reads x)) (λ j x. late (i + 1) T' ws j (reads x)) (λ j x. moved i T w ws long (sets w) refl l q j (reads x))))
         ∙ ap (λ x. onces && (x && others)) (sym (sym (read_first i T w ws (reads w)) ∙ p))
 
-  pub pass-is : (ws : List Instruction) (i : ℕ) (T : List ℕ) → n ≤ length T → every (λ w. inside n (sets w)) ws ≡ true
+  pub pass_is : (ws : List Instruction) (i : ℕ) (T : List ℕ) → n ≤ length T → every (λ w. inside n (sets w)) ws ≡ true
       → slot_pass n arities i T ws ≡ (below n (once T ws) && each_at (λ j w. late i T ws j (reads w)) ws)
-  pass-is [] i T long h = below-ext n (λ y. not (eqb (get_or T y 0) 0)) (once T []) (λ y l. unmarked (get_or T y 0)) ∙ true-right (below n (once T []))
-  pass-is (w ∷ ws) i T long h =
+  pass_is [] i T long h = below_ext n (λ y. not (eqb (get_or T y 0) 0)) (once T []) (λ y l. unmarked (get_or T y 0)) ∙ true_right (below n (once T []))
+  pass_is (w ∷ ws) i T long h =
       let parts = and_parts (inside n (sets w)) (every (λ w. inside n (sets w)) ws) h in
       turn i T w ws long (can_read T i (reads w)) (can_set T (sets w)) refl refl parts.0
-      (pass-is ws (i + 1) (T' i T w ws long) (next-long i T w ws long (sets w)) parts.1)
+      (pass_is ws (i + 1) (T' i T w ws long) (next_long i T w ws long (sets w)) parts.1)
 
   abbrev none : List ℕ
   none = replicate 256 0
 
-  zero-at : (y : ℕ) → get_or none y 0 ≡ 0
-  zero-at y = elim (cases_lt y 256) [ inl l ↦ get_or-replicate 256 y 0 0 l | inr g ↦ get_or_past none y 0 (let e : length none ≡ 256 = length-replicate {A = ℕ} 256 0 in omega arith) ]
+  zero_at : (y : ℕ) → get_or none y 0 ≡ 0
+  zero_at y = elim (cases_lt y 256) [ inl l ↦ get_or-replicate 256 y 0 0 l | inr g ↦ get_or_past none y 0 (let e : length none ≡ 256 = length-replicate {A = ℕ} 256 0 in omega arith) ]
 
-  pub slots-are : (ws : List Instruction) → n ≤ 256 → every (λ w. inside n (sets w)) ws ≡ true → slot_pass n arities 0 none ws ≡ v5 n arities ws
-  slots-are ws few h =
-      pass-is ws 0 none (let e : length none ≡ 256 = length-replicate {A = ℕ} 256 0 in omega arith) h
+  pub slots_are : (ws : List Instruction) → n ≤ 256 → every (λ w. inside n (sets w)) ws ≡ true → slot_pass n arities 0 none ws ≡ v5 n arities ws
+  slots_are ws few h =
+      pass_is ws 0 none (let e : length none ≡ 256 = length-replicate {A = ℕ} 256 0 in omega arith) h
       ∙ ap₂ (λ (a b : Bool). a && b)
-      (below-ext n (once none ws) (λ y. eqb (times y ws) 1) (λ y l. let z : noted (get_or none y 0) ≡ 0 = ap noted (zero-at y) in let e : times y ws + noted (get_or none y 0) ≡ times y ws = omega arith in ap (λ k. eqb k 1) e))
-      (each-ext ws (λ j w. late 0 none ws j (reads w)) (λ j w. ready arities ws j (reads w)) (λ j w. start j (reads w)))
+      (below_ext n (once none ws) (λ y. eqb (times y ws) 1) (λ y l. let z : noted (get_or none y 0) ≡ 0 = ap noted (zero_at y) in let e : times y ws + noted (get_or none y 0) ≡ times y ws = omega arith in ap (λ k. eqb k 1) e))
+      (each_ext ws (λ j w. late 0 none ws j (reads w)) (λ j w. ready arities ws j (reads w)) (λ j w. start j (reads w)))
     where
       start : (j : ℕ) (o : Option ℕ) → late 0 none ws j o ≡ ready arities ws j o
       start j None = refl
-      start j (Some y) = ap (λ t. held t (0 + j) || set_before arities ws y j) (zero-at y)
+      start j (Some y) = ap (λ t. held t (0 + j) || set_before arities ws y j) (zero_at y)
 
   -- the loop
-  pub pass-turn : (ws : List ℕ) (i : ℕ) (T : List ℕ) (x : Instruction) (r s : Bool) → i < length ws → x ≡ decode (get_or ws i 0) → r ≡ can_read T i (reads x) → s ≡ can_set T (sets x)
+  pub pass_turn : (ws : List ℕ) (i : ℕ) (T : List ℕ) (x : Instruction) (r s : Bool) → i < length ws → x ≡ decode (get_or ws i 0) → r ≡ can_read T i (reads x) → s ≡ can_set T (sets x)
       → slot_pass n arities i T (map decode (drop i ws)) ≡ (r && (s && slot_pass n arities (i + 1) (marked T (sets x) (i + 1 + builds arities x)) (map decode (drop (i + 1) ws))))
-  pass-turn ws i T x r s h p q e =
+  pass_turn ws i T x r s h p q e =
       at_drop_more (λ l. slot_pass n arities i T (map decode l)) ws i 0 h
       ∙ ap (λ w. can_read T i (reads w) && (can_set T (sets w) && slot_pass n arities (i + 1) (marked T (sets w) (i + 1 + builds arities w)) (map decode (drop (i + 1) ws)))) (sym p)
       ∙ ap₂ (λ (a b : Bool). a && (b && slot_pass n arities (i + 1) (marked T (sets x) (i + 1 + builds arities x)) (map decode (drop (i + 1) ws)))) (sym q) (sym e)
 
-pub marked-length : (T : List ℕ) (o : Option ℕ) (t : ℕ) → length (marked T o t) ≡ length T
-marked-length T None t = refl
-marked-length T (Some y) t = length-set T y t
+pub marked_length : (T : List ℕ) (o : Option ℕ) (t : ℕ) → length (marked T o t) ≡ length T
+marked_length T None t = refl
+marked_length T (Some y) t = length-set T y t

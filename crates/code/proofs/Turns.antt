@@ -17,21 +17,21 @@ module _ {S : Type 0} (step : S → Instruction → Option S) (done : S → Bool
   walk_end h = at_drop_all (λ l. walk step done s (map decode l)) ws i h
 
 module _ {X : Type 0} (p : X → Bool) (xs : List X) (n : ℕ) (d : X) where
-  pub every-step : n < length xs → p (get_or xs n d) ≡ true → every p (drop n xs) ≡ every p (drop (n + 1) xs)
-  every-step h e = at_drop_more (every p) xs n d h ∙ ap (λ t. t && every p (drop (n + 1) xs)) e
+  pub every_step : n < length xs → p (get_or xs n d) ≡ true → every p (drop n xs) ≡ every p (drop (n + 1) xs)
+  every_step h e = at_drop_more (every p) xs n d h ∙ ap (λ t. t && every p (drop (n + 1) xs)) e
 
-  pub every-stop : n < length xs → p (get_or xs n d) ≡ false → every p (drop n xs) ≡ false
-  every-stop h e = at_drop_more (every p) xs n d h ∙ ap (λ t. t && every p (drop (n + 1) xs)) e
+  pub every_stop : n < length xs → p (get_or xs n d) ≡ false → every p (drop n xs) ≡ false
+  every_stop h e = at_drop_more (every p) xs n d h ∙ ap (λ t. t && every p (drop (n + 1) xs)) e
 
-  pub every-end : length xs ≤ n → every p (drop n xs) ≡ true
-  every-end h = at_drop_all (every p) xs n h
+  pub every_end : length xs ≤ n → every p (drop n xs) ≡ true
+  every_end h = at_drop_all (every p) xs n h
 
 module _ (p : Instruction → Bool) (xs : List ℕ) (n : ℕ) where
-  pub total-step : n < length xs → (t : Bool) → t ≡ p (decode (get_or xs n 0)) → total p (map decode (drop n xs)) ≡ cond t (suc (total p (map decode (drop (n + 1) xs)))) (total p (map decode (drop (n + 1) xs)))
-  total-step h t e = at_drop_more (λ l. total p (map decode l)) xs n 0 h ∙ ap (λ t. cond t (suc (total p (map decode (drop (n + 1) xs)))) (total p (map decode (drop (n + 1) xs)))) (sym e)
+  pub total_step : n < length xs → (t : Bool) → t ≡ p (decode (get_or xs n 0)) → total p (map decode (drop n xs)) ≡ cond t (suc (total p (map decode (drop (n + 1) xs)))) (total p (map decode (drop (n + 1) xs)))
+  total_step h t e = at_drop_more (λ l. total p (map decode l)) xs n 0 h ∙ ap (λ t. cond t (suc (total p (map decode (drop (n + 1) xs)))) (total p (map decode (drop (n + 1) xs)))) (sym e)
 
-  pub total-end : length xs ≤ n → total p (map decode (drop n xs)) ≡ 0
-  total-end h = at_drop_all (λ l. total p (map decode l)) xs n h
+  pub total_end : length xs ≤ n → total p (map decode (drop n xs)) ≡ 0
+  total_end h = at_drop_all (λ l. total p (map decode l)) xs n h
 
 -- the rest of a list, as `[first, rest @ ..]` has it
 abbrev pub rest : List ℕ → List ℕ

@@ -8,7 +8,7 @@ use Rattle.code.specs.Tests.{every, each_at, is, below, total}
 use Rattle.code.specs.Rules.{builds, set_before, ready, opened, legal, ranged, allowed, v1, v2, v3, v4, v5, v6, v7, lowest, broken}
 use Rattle.code.specs.Table.{found}
 use Rattle.code.specs.WellFormed.{Kept, WellFormed, word_at}
-use Rattle.code.proofs.RangeLaws.{all-ranged}
+use Rattle.code.proofs.RangeLaws.{all_ranged}
 
 never : {A : Type 0} → false ≡ true → A
 never e = let z : ◌≡◌ {A = ℕ} 0 1 = cc in absurd (omega arith)
@@ -37,56 +37,56 @@ kept ar p k ws e =
     record { v1_kept = a.0; v2_kept = a.1.0; v3_kept = a.1.1.0; v4_kept = a.1.1.1.0; v5_kept = a.1.1.1.1.0; v6_kept = a.1.1.1.1.1.0; v7_kept = a.1.1.1.1.1.1 }
 
 -- by place
-every-at : (p : Instruction → Bool) (ws : List ℕ) (i : ℕ) → every p (map decode ws) ≡ true → i < length ws → p (word_at ws i) ≡ true
-every-at p [] i h l = absurd (omega arith)
-every-at p (w ∷ ws) zero h l = (and_parts (p (decode w)) (every p (map decode ws)) h).0
-every-at p (w ∷ ws) (suc i) h l = every-at p ws i (and_parts (p (decode w)) (every p (map decode ws)) h).1 (omega arith)
+every_at : (p : Instruction → Bool) (ws : List ℕ) (i : ℕ) → every p (map decode ws) ≡ true → i < length ws → p (word_at ws i) ≡ true
+every_at p [] i h l = absurd (omega arith)
+every_at p (w ∷ ws) zero h l = (and_parts (p (decode w)) (every p (map decode ws)) h).0
+every_at p (w ∷ ws) (suc i) h l = every_at p ws i (and_parts (p (decode w)) (every p (map decode ws)) h).1 (omega arith)
 
-each_at-word : (p : ℕ → Instruction → Bool) (ws : List ℕ) (i : ℕ) → each_at p (map decode ws) ≡ true → i < length ws → p i (word_at ws i) ≡ true
-each_at-word p [] i h l = absurd (omega arith)
-each_at-word p (w ∷ ws) zero h l = (and_parts (p 0 (decode w)) (each_at (λ j. p (suc j)) (map decode ws)) h).0
-each_at-word p (w ∷ ws) (suc i) h l = each_at-word (λ j. p (suc j)) ws i (and_parts (p 0 (decode w)) (each_at (λ j. p (suc j)) (map decode ws)) h).1 (omega arith)
+each_at_word : (p : ℕ → Instruction → Bool) (ws : List ℕ) (i : ℕ) → each_at p (map decode ws) ≡ true → i < length ws → p i (word_at ws i) ≡ true
+each_at_word p [] i h l = absurd (omega arith)
+each_at_word p (w ∷ ws) zero h l = (and_parts (p 0 (decode w)) (each_at (λ j. p (suc j)) (map decode ws)) h).0
+each_at_word p (w ∷ ws) (suc i) h l = each_at_word (λ j. p (suc j)) ws i (and_parts (p 0 (decode w)) (each_at (λ j. p (suc j)) (map decode ws)) h).1 (omega arith)
 
 is_some : (o : Option ℕ) (y : ℕ) → is o y ≡ true → o ≡ Some y
 is_some None y e = never e
 is_some (Some z) y e = ap Some (eqb-true z y e)
 
 -- a slot that is set before word j was set by an earlier word
-pub set-earlier : (ar ws : List ℕ) (y j : ℕ) → set_before ar (map decode ws) y j ≡ true → (k : ℕ) × ((k < j) × (sets (word_at ws k) ≡ Some y))
-set-earlier ar [] y j h = never h
-set-earlier ar (w ∷ ws) y zero h = never h
-set-earlier ar (w ∷ ws) y (suc j) h =
+pub set_earlier : (ar ws : List ℕ) (y j : ℕ) → set_before ar (map decode ws) y j ≡ true → (k : ℕ) × ((k < j) × (sets (word_at ws k) ≡ Some y))
+set_earlier ar [] y j h = never h
+set_earlier ar (w ∷ ws) y zero h = never h
+set_earlier ar (w ∷ ws) y (suc j) h =
     elim (or_cases (is (sets (decode w)) y && leb (builds ar (decode w)) j) (set_before ar (map decode ws) y j) h) [
       | inl a ↦ (0, (omega arith, is_some (sets (decode w)) y (and_parts (is (sets (decode w)) y) (leb (builds ar (decode w)) j) a).0))
-      | inr b ↦ let ih = set-earlier ar ws y j b in (suc ih.0, (omega (arith, ih.1.0), ih.1.1))
+      | inr b ↦ let ih = set_earlier ar ws y j b in (suc ih.0, (omega (arith, ih.1.0), ih.1.1))
     ]
 
 -- the slots that a legal first word opens
-few-at : (n : ℕ) (ar : List ℕ) (w : ℕ) → legal n ar w ≡ true → opcode w ≡ 1 → first w ≤ 128
-few-at n ar w h e =
+few_at : (n : ℕ) (ar : List ℕ) (w : ℕ) → legal n ar w ≡ true → opcode w ≡ 1 → first w ≤ 128
+few_at n ar w h e =
     leb-true (first w) 128 (and_parts (leb (first w) 128) (eqb (second w) 0) (ap (λ o. allowed n ar (found o) (first w) (second w)) (sym e) ∙ h)).0
 
-few-opened : (ar ws : List ℕ) → v1 ar ws ≡ true → opened ws ≤ 128
-few-opened ar [] h = omega arith
-few-opened ar (w ∷ ws) h = go (eqb (opcode w) 1) refl
+few_opened : (ar ws : List ℕ) → v1 ar ws ≡ true → opened ws ≤ 128
+few_opened ar [] h = omega arith
+few_opened ar (w ∷ ws) h = go (eqb (opcode w) 1) refl
   where
     l : legal (opened (w ∷ ws)) ar w ≡ true
     l = (and_parts (legal (opened (w ∷ ws)) ar w) (every (legal (opened (w ∷ ws)) ar) ws) h).0
 
     go : (t : Bool) → eqb (opcode w) 1 ≡ t → cond t (first w) 0 ≤ 128
-    go true e = few-at (opened (w ∷ ws)) ar w l (eqb-true (opcode w) 1 e)
+    go true e = few_at (opened (w ∷ ws)) ar w l (eqb-true (opcode w) 1 e)
     go false e = omega arith
 
-pub well-formed : (arities : List ℕ) (predicate key : ℕ) (ws : List ℕ) → Kept arities predicate key ws → WellFormed arities ws
-well-formed ar p k ws h =
+pub well_formed : (arities : List ℕ) (predicate key : ℕ) (ws : List ℕ) → Kept arities predicate key ws → WellFormed arities ws
+well_formed ar p k ws h =
     record {
-      few = few-opened ar ws h.v1_kept;
-      ranges = λ i l. every-at (ranged (opened ws) ar) ws i (all-ranged ar ws h.v1_kept) l;
-      earlier = λ i y l e. set-earlier ar ws y i (ready_at i y l e);
+      few = few_opened ar ws h.v1_kept;
+      ranges = λ i l. every_at (ranged (opened ws) ar) ws i (all_ranged ar ws h.v1_kept) l;
+      earlier = λ i y l e. set_earlier ar ws y i (ready_at i y l e);
     }
   where
     parts : below (opened ws) (λ y. eqb (total (λ w. is (sets w) y) (map decode ws)) 1) ≡ true × each_at (λ j w. ready ar (map decode ws) j (reads w)) (map decode ws) ≡ true
     parts = and_parts (below (opened ws) (λ y. eqb (total (λ w. is (sets w) y) (map decode ws)) 1)) (each_at (λ j w. ready ar (map decode ws) j (reads w)) (map decode ws)) h.v5_kept
 
     ready_at : (i y : ℕ) → i < length ws → reads (word_at ws i) ≡ Some y → set_before ar (map decode ws) y i ≡ true
-    ready_at i y l e = ap (ready ar (map decode ws) i) (sym e) ∙ each_at-word (λ j w. ready ar (map decode ws) j (reads w)) ws i parts.1 l
+    ready_at i y l e = ap (ready ar (map decode ws) i) (sym e) ∙ each_at_word (λ j w. ready ar (map decode ws) j (reads w)) ws i parts.1 l

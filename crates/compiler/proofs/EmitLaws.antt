@@ -19,9 +19,9 @@ use Rattle.code.specs.declared.instructions.Instruction.TheVariants.{Allocate, G
 use Rattle.compiler.specs.declared.rows.Role.{Role}
 use Rattle.compiler.specs.declared.rows.Role.TheVariants.{Gets, Unifies, Puts, Sets}
 
-pub join-assoc : (a b c : Terms ℕ) → join (join a b) c ≡ join a (join b c)
-join-assoc nil b c = refl
-join-assoc (cons t a) b c = ap (cons t) (join-assoc a b c)
+pub join_assoc : (a b c : Terms ℕ) → join (join a b) c ≡ join a (join b c)
+join_assoc nil b c = refl
+join_assoc (cons t a) b c = ap (cons t) (join_assoc a b c)
 
 pub emits_then : (sig : Signature) (a b : List Instruction) (X Y : Terming → Terming → Type 0) (G K : Terming → Terms ℕ)
     → Emits sig a X G → Emits sig b Y K → Emits sig (a ++ b) (λ α ρ. X α ρ × Y α ρ) (λ ρ. join (G ρ) (K ρ))
@@ -31,32 +31,32 @@ emits_then sig a b X Y G K p q = record {
       let two = q.into α ρ rest one.1 in
       ((one.0, two.0), two.1);
   back = λ α ρ rest x h. subst (λ l. Says (symbols_of sig) l α ρ) (sym (append_assoc a b rest)) (p.back α ρ (b ++ rest) x.0 (q.back α ρ rest x.1 h));
-  leaves = λ ρ rest. ap (λ l. goals (symbols_of sig) l ρ var) (append_assoc a b rest) ∙ p.leaves ρ (b ++ rest) ∙ ap (join (G ρ)) (q.leaves ρ rest) ∙ sym (join-assoc (G ρ) (K ρ) _);
+  leaves = λ ρ rest. ap (λ l. goals (symbols_of sig) l ρ var) (append_assoc a b rest) ∙ p.leaves ρ (b ++ rest) ∙ ap (join (G ρ)) (q.leaves ρ rest) ∙ sym (join_assoc (G ρ) (K ρ) _);
 }
 
-pub emits-as : (sig : Signature) (a : List Instruction) (X Y : Terming → Terming → Type 0) (G : Terming → Terms ℕ)
+pub emits_as : (sig : Signature) (a : List Instruction) (X Y : Terming → Terming → Type 0) (G : Terming → Terms ℕ)
     → ((α ρ : Terming) → X α ρ → Y α ρ) → ((α ρ : Terming) → Y α ρ → X α ρ) → Emits sig a X G → Emits sig a Y G
-emits-as sig a X Y G f g p = record {
+emits_as sig a X Y G f g p = record {
   into = λ α ρ rest h. let one = p.into α ρ rest h in (f α ρ one.0, one.1);
   back = λ α ρ rest y h. p.back α ρ rest (g α ρ y) h;
   leaves = p.leaves;
 }
 
 -- one operand more
-pub named-push : {p : Plan} {os : List Operand} {n j : ℕ} (o : Operand) → Named p os n j → Names p o (hop p.after n j) → Named p (os ++ o ∷ []) (suc n) j
-named-push o none q = more q none
-named-push o (more h r) q = more h (named-push o r q)
+pub named_push : {p : Plan} {os : List Operand} {n j : ℕ} (o : Operand) → Named p os n j → Names p o (hop p.after n j) → Named p (os ++ o ∷ []) (suc n) j
+named_push o none q = more q none
+named_push o (more h r) q = more h (named_push o r q)
 
-pub named-long : {p : Plan} {os : List Operand} {n j : ℕ} → Named p os n j → length os ≡ n
-named-long none = refl
-named-long (more h r) = ap suc (named-long r)
+pub named_long : {p : Plan} {os : List Operand} {n j : ℕ} → Named p os n j → length os ≡ n
+named_long none = refl
+named_long (more h r) = ap suc (named_long r)
 
 -- the get words equate the arguments with what they name
-pub gets-into : (p : Plan) {os : List Operand} {n j : ℕ} (α ρ : Terming) (rest : List Instruction) (a : ℕ) → Named p os n j
+pub gets_into : (p : Plan) {os : List Operand} {n j : ℕ} (α ρ : Terming) (rest : List Instruction) (a : ℕ) → Named p os n j
     → Says (symbols_of p.sig) (row Gets a os ++ rest) α ρ → (span α a n ≡ values p ρ n j) × Says (symbols_of p.sig) rest α ρ
-gets-into p α ρ rest a none s = (refl, s)
-gets-into p α ρ rest a (more h r) s =
-    let more = gets-into p α ρ rest (suc a) r s.1 in
+gets_into p α ρ rest a none s = (refl, s)
+gets_into p α ρ rest a (more h r) s =
+    let more = gets_into p α ρ rest (suc a) r s.1 in
     (ap₂ cons (s.0 ∙ h ρ) more.0, more.1)
 
 pub gets_back : (p : Plan) {os : List Operand} {n j : ℕ} (α ρ : Terming) (rest : List Instruction) (a : ℕ) → Named p os n j
@@ -67,48 +67,48 @@ gets_back p α ρ rest a (more {n = n} {j = j} h r) q s =
     let others : span α (suc a) n ≡ values p ρ n (p.after j) = cc in
     (one ∙ sym (h ρ), gets_back p α ρ rest (suc a) r others s)
 
-pub gets-goals : (sig : Signature) (ρ π : Terming) (rest : List Instruction) (os : List Operand) (a : ℕ) → goals (symbols_of sig) (row Gets a os ++ rest) ρ π ≡ goals (symbols_of sig) rest ρ π
-gets-goals sig ρ π rest [] a = refl
-gets-goals sig ρ π rest (o ∷ os) a = gets-goals sig ρ π rest os (suc a)
+pub gets_goals : (sig : Signature) (ρ π : Terming) (rest : List Instruction) (os : List Operand) (a : ℕ) → goals (symbols_of sig) (row Gets a os ++ rest) ρ π ≡ goals (symbols_of sig) rest ρ π
+gets_goals sig ρ π rest [] a = refl
+gets_goals sig ρ π rest (o ∷ os) a = gets_goals sig ρ π rest os (suc a)
 
 -- the words of a structure name its arguments
-pub unifies-parts : (p : Plan) {os : List Operand} {n j : ℕ} (ρ : Terming) (rest : List Instruction) (a : ℕ) → Named p os n j → parts (symbols_of p.sig) n (row Unifies a os ++ rest) ρ ≡ values p ρ n j
-unifies-parts p ρ rest a none = refl
-unifies-parts p ρ rest a (more h r) = ap₂ cons (h ρ) (unifies-parts p ρ rest (suc a) r)
+pub unifies_parts : (p : Plan) {os : List Operand} {n j : ℕ} (ρ : Terming) (rest : List Instruction) (a : ℕ) → Named p os n j → parts (symbols_of p.sig) n (row Unifies a os ++ rest) ρ ≡ values p ρ n j
+unifies_parts p ρ rest a none = refl
+unifies_parts p ρ rest a (more h r) = ap₂ cons (h ρ) (unifies_parts p ρ rest (suc a) r)
 
-pub sets-parts : (p : Plan) {os : List Operand} {n j : ℕ} (ρ : Terming) (rest : List Instruction) (a : ℕ) → Named p os n j → parts (symbols_of p.sig) n (row Sets a os ++ rest) ρ ≡ values p ρ n j
-sets-parts p ρ rest a none = refl
-sets-parts p ρ rest a (more h r) = ap₂ cons (h ρ) (sets-parts p ρ rest (suc a) r)
+pub sets_parts : (p : Plan) {os : List Operand} {n j : ℕ} (ρ : Terming) (rest : List Instruction) (a : ℕ) → Named p os n j → parts (symbols_of p.sig) n (row Sets a os ++ rest) ρ ≡ values p ρ n j
+sets_parts p ρ rest a none = refl
+sets_parts p ρ rest a (more h r) = ap₂ cons (h ρ) (sets_parts p ρ rest (suc a) r)
 
 -- rows that say nothing themselves
-pub unifies-says : (sig : Signature) (α ρ : Terming) (rest : List Instruction) (os : List Operand) (a : ℕ) → Says (symbols_of sig) (row Unifies a os ++ rest) α ρ ≡ Says (symbols_of sig) rest α ρ
-unifies-says sig α ρ rest [] a = refl
-unifies-says sig α ρ rest (o ∷ os) a = unifies-says sig α ρ rest os (suc a)
+pub unifies_says : (sig : Signature) (α ρ : Terming) (rest : List Instruction) (os : List Operand) (a : ℕ) → Says (symbols_of sig) (row Unifies a os ++ rest) α ρ ≡ Says (symbols_of sig) rest α ρ
+unifies_says sig α ρ rest [] a = refl
+unifies_says sig α ρ rest (o ∷ os) a = unifies_says sig α ρ rest os (suc a)
 
-pub unifies-goals : (sig : Signature) (ρ π : Terming) (rest : List Instruction) (os : List Operand) (a : ℕ) → goals (symbols_of sig) (row Unifies a os ++ rest) ρ π ≡ goals (symbols_of sig) rest ρ π
-unifies-goals sig ρ π rest [] a = refl
-unifies-goals sig ρ π rest (o ∷ os) a = unifies-goals sig ρ π rest os (suc a)
+pub unifies_goals : (sig : Signature) (ρ π : Terming) (rest : List Instruction) (os : List Operand) (a : ℕ) → goals (symbols_of sig) (row Unifies a os ++ rest) ρ π ≡ goals (symbols_of sig) rest ρ π
+unifies_goals sig ρ π rest [] a = refl
+unifies_goals sig ρ π rest (o ∷ os) a = unifies_goals sig ρ π rest os (suc a)
 
-pub sets-says : (sig : Signature) (α ρ : Terming) (rest : List Instruction) (os : List Operand) (a : ℕ) → Says (symbols_of sig) (row Sets a os ++ rest) α ρ ≡ Says (symbols_of sig) rest α ρ
-sets-says sig α ρ rest [] a = refl
-sets-says sig α ρ rest (o ∷ os) a = sets-says sig α ρ rest os (suc a)
+pub sets_says : (sig : Signature) (α ρ : Terming) (rest : List Instruction) (os : List Operand) (a : ℕ) → Says (symbols_of sig) (row Sets a os ++ rest) α ρ ≡ Says (symbols_of sig) rest α ρ
+sets_says sig α ρ rest [] a = refl
+sets_says sig α ρ rest (o ∷ os) a = sets_says sig α ρ rest os (suc a)
 
-pub sets-goals : (sig : Signature) (ρ π : Terming) (rest : List Instruction) (os : List Operand) (a : ℕ) → goals (symbols_of sig) (row Sets a os ++ rest) ρ π ≡ goals (symbols_of sig) rest ρ π
-sets-goals sig ρ π rest [] a = refl
-sets-goals sig ρ π rest (o ∷ os) a = sets-goals sig ρ π rest os (suc a)
+pub sets_goals : (sig : Signature) (ρ π : Terming) (rest : List Instruction) (os : List Operand) (a : ℕ) → goals (symbols_of sig) (row Sets a os ++ rest) ρ π ≡ goals (symbols_of sig) rest ρ π
+sets_goals sig ρ π rest [] a = refl
+sets_goals sig ρ π rest (o ∷ os) a = sets_goals sig ρ π rest os (suc a)
 
-pub puts-says : (sig : Signature) (α ρ : Terming) (rest : List Instruction) (os : List Operand) (a : ℕ) → Says (symbols_of sig) (row Puts a os ++ rest) α ρ ≡ Says (symbols_of sig) rest α ρ
-puts-says sig α ρ rest [] a = refl
-puts-says sig α ρ rest (o ∷ os) a = puts-says sig α ρ rest os (suc a)
+pub puts_says : (sig : Signature) (α ρ : Terming) (rest : List Instruction) (os : List Operand) (a : ℕ) → Says (symbols_of sig) (row Puts a os ++ rest) α ρ ≡ Says (symbols_of sig) rest α ρ
+puts_says sig α ρ rest [] a = refl
+puts_says sig α ρ rest (o ∷ os) a = puts_says sig α ρ rest os (suc a)
 
 -- the arguments that a row of put words leaves
 abbrev putting : Signature → ℕ → List Operand → Terming → Terming → Terming
 putting sig a [] ρ π = π
 putting sig a (o ∷ os) ρ π = putting sig (suc a) os ρ (update π a (given (symbols_of sig) o ρ))
 
-puts-goals : (sig : Signature) (ρ π : Terming) (rest : List Instruction) (os : List Operand) (a : ℕ) → goals (symbols_of sig) (row Puts a os ++ rest) ρ π ≡ goals (symbols_of sig) rest ρ (putting sig a os ρ π)
-puts-goals sig ρ π rest [] a = refl
-puts-goals sig ρ π rest (o ∷ os) a = puts-goals sig ρ (update π a (given (symbols_of sig) o ρ)) rest os (suc a)
+puts_goals : (sig : Signature) (ρ π : Terming) (rest : List Instruction) (os : List Operand) (a : ℕ) → goals (symbols_of sig) (row Puts a os ++ rest) ρ π ≡ goals (symbols_of sig) rest ρ (putting sig a os ρ π)
+puts_goals sig ρ π rest [] a = refl
+puts_goals sig ρ π rest (o ∷ os) a = puts_goals sig ρ (update π a (given (symbols_of sig) o ρ)) rest os (suc a)
 
 update_same : (π : Terming) (a : ℕ) (t : Term ℕ) → update π a t a ≡ t
 update_same π a t = ap (λ b. cond b t (π a)) (eq-eqb a a refl)
@@ -116,69 +116,69 @@ update_same π a t = ap (λ b. cond b t (π a)) (eq-eqb a a refl)
 update_other : (π : Terming) (a k : ℕ) (t : Term ℕ) → (k ≡ a → ⊥) → update π a t k ≡ π k
 update_other π a k t ne = ap (λ b. cond b t (π k)) (ne_eqb k a ne)
 
-putting-before : (sig : Signature) (os : List Operand) (a k : ℕ) (ρ π : Terming) → k < a → putting sig a os ρ π k ≡ π k
-putting-before sig [] a k ρ π h = refl
-putting-before sig (o ∷ os) a k ρ π h = putting-before sig os (suc a) k ρ (update π a (given (symbols_of sig) o ρ)) (omega arith) ∙ update_other π a k _ (λ q. omega arith)
+putting_before : (sig : Signature) (os : List Operand) (a k : ℕ) (ρ π : Terming) → k < a → putting sig a os ρ π k ≡ π k
+putting_before sig [] a k ρ π h = refl
+putting_before sig (o ∷ os) a k ρ π h = putting_before sig os (suc a) k ρ (update π a (given (symbols_of sig) o ρ)) (omega arith) ∙ update_other π a k _ (λ q. omega arith)
 
-putting-span : (p : Plan) {os : List Operand} {n j : ℕ} (ρ π : Terming) (a : ℕ) → Named p os n j → span (putting p.sig a os ρ π) a n ≡ values p ρ n j
-putting-span p ρ π a none = refl
-putting-span p ρ π a (more {o = o} {os = os} h r) =
-    ap₂ cons (putting-before p.sig os (suc a) a ρ (update π a (given (symbols_of p.sig) o ρ)) (omega arith) ∙ update_same π a (given (symbols_of p.sig) o ρ) ∙ h ρ)
-    (putting-span p ρ (update π a (given (symbols_of p.sig) o ρ)) (suc a) r)
+putting_span : (p : Plan) {os : List Operand} {n j : ℕ} (ρ π : Terming) (a : ℕ) → Named p os n j → span (putting p.sig a os ρ π) a n ≡ values p ρ n j
+putting_span p ρ π a none = refl
+putting_span p ρ π a (more {o = o} {os = os} h r) =
+    ap₂ cons (putting_before p.sig os (suc a) a ρ (update π a (given (symbols_of p.sig) o ρ)) (omega arith) ∙ update_same π a (given (symbols_of p.sig) o ρ) ∙ h ρ)
+    (putting_span p ρ (update π a (given (symbols_of p.sig) o ρ)) (suc a) r)
 
-pub emits-gets : (p : Plan) {os : List Operand} {n j : ℕ} → Named p os n j → Emits p.sig (row Gets 1 os) (λ α ρ. span α 1 n ≡ values p ρ n j) (λ ρ. nil)
-emits-gets p {os} h = record {
-  into = λ α ρ rest s. gets-into p α ρ rest 1 h s;
+pub emits_gets : (p : Plan) {os : List Operand} {n j : ℕ} → Named p os n j → Emits p.sig (row Gets 1 os) (λ α ρ. span α 1 n ≡ values p ρ n j) (λ ρ. nil)
+emits_gets p {os} h = record {
+  into = λ α ρ rest s. gets_into p α ρ rest 1 h s;
   back = λ α ρ rest x s. gets_back p α ρ rest 1 h x s;
-  leaves = λ ρ rest. gets-goals p.sig ρ var rest os 1;
+  leaves = λ ρ rest. gets_goals p.sig ρ var rest os 1;
 }
 
-pub emits-get-structure : (p : Plan) {os : List Operand} {j : ℕ} (y f : ℕ) → Named p os (arity_at p.sig f) j
+pub emits_get_structure : (p : Plan) {os : List Operand} {j : ℕ} (y f : ℕ) → Named p os (arity_at p.sig f) j
     → Emits p.sig (GetStructure y f ∷ row Unifies 1 os) (λ α ρ. ρ y ≡ node (name_at p.sig f) (values p ρ (arity_at p.sig f) j)) (λ ρ. nil)
-emits-get-structure p {os} y f h = record {
-  into = λ α ρ rest s. (s.0 ∙ ap (node (name_at p.sig f)) (unifies-parts p ρ rest 1 h), subst (λ X. X) (unifies-says p.sig α ρ rest os 1) s.1);
-  back = λ α ρ rest x s. (x ∙ ap (node (name_at p.sig f)) (sym (unifies-parts p ρ rest 1 h)), subst (λ X. X) (sym (unifies-says p.sig α ρ rest os 1)) s);
-  leaves = λ ρ rest. unifies-goals p.sig ρ var rest os 1;
+emits_get_structure p {os} y f h = record {
+  into = λ α ρ rest s. (s.0 ∙ ap (node (name_at p.sig f)) (unifies_parts p ρ rest 1 h), subst (λ X. X) (unifies_says p.sig α ρ rest os 1) s.1);
+  back = λ α ρ rest x s. (x ∙ ap (node (name_at p.sig f)) (sym (unifies_parts p ρ rest 1 h)), subst (λ X. X) (sym (unifies_says p.sig α ρ rest os 1)) s);
+  leaves = λ ρ rest. unifies_goals p.sig ρ var rest os 1;
 }
 
-pub emits-put-structure : (p : Plan) {os : List Operand} {j : ℕ} (y f : ℕ) → Named p os (arity_at p.sig f) j
+pub emits_put_structure : (p : Plan) {os : List Operand} {j : ℕ} (y f : ℕ) → Named p os (arity_at p.sig f) j
     → Emits p.sig (PutStructure y f ∷ row Sets 1 os) (λ α ρ. ρ y ≡ node (name_at p.sig f) (values p ρ (arity_at p.sig f) j)) (λ ρ. nil)
-emits-put-structure p {os} y f h = record {
-  into = λ α ρ rest s. (s.0 ∙ ap (node (name_at p.sig f)) (sets-parts p ρ rest 1 h), subst (λ X. X) (sets-says p.sig α ρ rest os 1) s.1);
-  back = λ α ρ rest x s. (x ∙ ap (node (name_at p.sig f)) (sym (sets-parts p ρ rest 1 h)), subst (λ X. X) (sym (sets-says p.sig α ρ rest os 1)) s);
-  leaves = λ ρ rest. sets-goals p.sig ρ var rest os 1;
+emits_put_structure p {os} y f h = record {
+  into = λ α ρ rest s. (s.0 ∙ ap (node (name_at p.sig f)) (sets_parts p ρ rest 1 h), subst (λ X. X) (sets_says p.sig α ρ rest os 1) s.1);
+  back = λ α ρ rest x s. (x ∙ ap (node (name_at p.sig f)) (sym (sets_parts p ρ rest 1 h)), subst (λ X. X) (sym (sets_says p.sig α ρ rest os 1)) s);
+  leaves = λ ρ rest. sets_goals p.sig ρ var rest os 1;
 }
 
-pub emits-goal : (p : Plan) {os : List Operand} {j : ℕ} (q : ℕ) → Named p os (arity_at p.sig q) j
+pub emits_goal : (p : Plan) {os : List Operand} {j : ℕ} (q : ℕ) → Named p os (arity_at p.sig q) j
     → Emits p.sig (row Puts 1 os ++ Call q ∷ []) (λ α ρ. Unit {0}) (λ ρ. cons (node (name_at p.sig q) (values p ρ (arity_at p.sig q) j)) nil)
-emits-goal p {os} q h = record {
-  into = λ α ρ rest s. (tt, subst (λ X. X) (puts-says p.sig α ρ (Call q ∷ rest) os 1) (subst (λ l. Says (symbols_of p.sig) l α ρ) (append_assoc (row Puts 1 os) (Call q ∷ []) rest) s));
-  back = λ α ρ rest x s. subst (λ l. Says (symbols_of p.sig) l α ρ) (sym (append_assoc (row Puts 1 os) (Call q ∷ []) rest)) (subst (λ X. X) (sym (puts-says p.sig α ρ (Call q ∷ rest) os 1)) s);
+emits_goal p {os} q h = record {
+  into = λ α ρ rest s. (tt, subst (λ X. X) (puts_says p.sig α ρ (Call q ∷ rest) os 1) (subst (λ l. Says (symbols_of p.sig) l α ρ) (append_assoc (row Puts 1 os) (Call q ∷ []) rest) s));
+  back = λ α ρ rest x s. subst (λ l. Says (symbols_of p.sig) l α ρ) (sym (append_assoc (row Puts 1 os) (Call q ∷ []) rest)) (subst (λ X. X) (sym (puts_says p.sig α ρ (Call q ∷ rest) os 1)) s);
   leaves = λ ρ rest.
       ap (λ l. goals (symbols_of p.sig) l ρ var) (append_assoc (row Puts 1 os) (Call q ∷ []) rest)
-      ∙ puts-goals p.sig ρ var (Call q ∷ rest) os 1
-      ∙ ap (λ ts. cons (node (name_at p.sig q) ts) (goals (symbols_of p.sig) rest ρ var)) (putting-span p ρ var 1 h);
+      ∙ puts_goals p.sig ρ var (Call q ∷ rest) os 1
+      ∙ ap (λ ts. cons (node (name_at p.sig q) ts) (goals (symbols_of p.sig) rest ρ var)) (putting_span p ρ var 1 h);
 }
 
 pub emits_none : (sig : Signature) → Emits sig [] (λ α ρ. Unit {0}) (λ ρ. nil)
 emits_none sig = record { into = λ α ρ rest s. (tt, s); back = λ α ρ rest x s. s; leaves = λ ρ rest. refl }
 
-pub emits-allocate : (sig : Signature) (n : ℕ) → Emits sig (Allocate n ∷ []) (λ α ρ. Unit {0}) (λ ρ. nil)
-emits-allocate sig n = record { into = λ α ρ rest s. (tt, s); back = λ α ρ rest x s. s; leaves = λ ρ rest. refl }
+pub emits_allocate : (sig : Signature) (n : ℕ) → Emits sig (Allocate n ∷ []) (λ α ρ. Unit {0}) (λ ρ. nil)
+emits_allocate sig n = record { into = λ α ρ rest s. (tt, s); back = λ α ρ rest x s. s; leaves = λ ρ rest. refl }
 
-pub emits-proceed : (sig : Signature) → Emits sig (Proceed ∷ []) (λ α ρ. Unit {0}) (λ ρ. nil)
-emits-proceed sig = record { into = λ α ρ rest s. (tt, s); back = λ α ρ rest x s. s; leaves = λ ρ rest. refl }
+pub emits_proceed : (sig : Signature) → Emits sig (Proceed ∷ []) (λ α ρ. Unit {0}) (λ ρ. nil)
+emits_proceed sig = record { into = λ α ρ rest s. (tt, s); back = λ α ρ rest x s. s; leaves = λ ρ rest. refl }
 
-pub row-long : (r : Role) (a : ℕ) (os : List Operand) → length (row r a os) ≡ length os
-row-long r a [] = refl
-row-long r a (o ∷ os) = ap suc (row-long r (suc a) os)
+pub row_long : (r : Role) (a : ℕ) (os : List Operand) → length (row r a os) ≡ length os
+row_long r a [] = refl
+row_long r a (o ∷ os) = ap suc (row_long r (suc a) os)
 
-pub exact-append : (a b : List Instruction) → map decode (map encode a) ≡ a → map decode (map encode b) ≡ b → map decode (map encode (a ++ b)) ≡ a ++ b
-exact-append a b p q = ap (map decode) (map-append encode a b) ∙ map-append decode (map encode a) (map encode b) ∙ ap₂ ◌++◌ p q
+pub exact_append : (a b : List Instruction) → map decode (map encode a) ≡ a → map decode (map encode b) ≡ b → map decode (map encode (a ++ b)) ≡ a ++ b
+exact_append a b p q = ap (map decode) (map-append encode a b) ∙ map-append decode (map encode a) (map encode b) ∙ ap₂ ◌++◌ p q
 
-pub lawful-append : (sig : Signature) (a b : List Instruction) → Lawfuls sig a → Lawfuls sig b → Lawfuls sig (a ++ b)
-lawful-append sig [] b p q = q
-lawful-append sig (w ∷ a) b p q = (p.0, lawful-append sig a b p.1 q)
+pub lawful_append : (sig : Signature) (a b : List Instruction) → Lawfuls sig a → Lawfuls sig b → Lawfuls sig (a ++ b)
+lawful_append sig [] b p q = q
+lawful_append sig (w ∷ a) b p q = (p.0, lawful_append sig a b p.1 q)
 
 pub row_lawful : (sig : Signature) (r : Role) (a : ℕ) (os : List Operand) → Fairs sig os → Lawfuls sig (row r a os)
 row_lawful sig r a [] h = tt
@@ -195,8 +195,8 @@ pub added_then : {sig : Signature} {a b c : Phase} {out out' out'' : List ℕ} {
 added_then {sig} {out = out} {X = X} {Y = Y} {G = G} {K = K} {s = s} p q = record {
   words = p.words ++ q.words;
   longer = q.longer ∙ ap (λ l. l ++ map encode q.words) p.longer ∙ append_assoc out (map encode p.words) (map encode q.words) ∙ ap (λ l. out ++ l) (sym (map-append encode p.words q.words));
-  exact = exact-append p.words q.words p.exact q.exact;
-  lawful = lawful-append sig p.words q.words p.lawful q.lawful;
+  exact = exact_append p.words q.words p.exact q.exact;
+  lawful = lawful_append sig p.words q.words p.lawful q.lawful;
   size = length-append p.words q.words ∙ ap₂ ◌+◌ p.size q.size;
   emits = emits_then sig p.words q.words X Y G K p.emits q.emits;
   flows = λ rest h. subst (λ l. Orderly sig 0 0 l s) (sym (append_assoc p.words q.words rest)) (p.flows (q.words ++ rest) (q.flows rest h));
@@ -204,23 +204,23 @@ added_then {sig} {out = out} {X = X} {Y = Y} {G = G} {K = K} {s = s} p q = recor
   script = next p.script q.script;
 }
 
-pub added-as : {sig : Signature} {a b : Phase} {out out' : List ℕ} {n : ℕ} {X : Terming → Terming → Type 0} {G : Terming → Terms ℕ} {s s' : List Bool} (m : ℕ) (Y : Terming → Terming → Type 0)
+pub added_as : {sig : Signature} {a b : Phase} {out out' : List ℕ} {n : ℕ} {X : Terming → Terming → Type 0} {G : Terming → Terms ℕ} {s s' : List Bool} (m : ℕ) (Y : Terming → Terming → Type 0)
     → n ≡ m → ((α ρ : Terming) → X α ρ → Y α ρ) → ((α ρ : Terming) → Y α ρ → X α ρ) → Added sig a b out out' n X G s s' → Added sig a b out out' m Y G s s'
-added-as {sig} {X = X} {G = G} m Y q f g p = record {
+added_as {sig} {X = X} {G = G} m Y q f g p = record {
   words = p.words;
   longer = p.longer;
   exact = p.exact;
   lawful = p.lawful;
   size = p.size ∙ q;
-  emits = emits-as sig p.words X Y G f g p.emits;
+  emits = emits_as sig p.words X Y G f g p.emits;
   flows = p.flows;
   more = p.more;
   script = p.script;
 }
 
-pub added-goals : {sig : Signature} {a b : Phase} {out out' : List ℕ} {n : ℕ} {X : Terming → Terming → Type 0} {G : Terming → Terms ℕ} {s s' : List Bool} (K : Terming → Terms ℕ)
+pub added_goals : {sig : Signature} {a b : Phase} {out out' : List ℕ} {n : ℕ} {X : Terming → Terming → Type 0} {G : Terming → Terms ℕ} {s s' : List Bool} (K : Terming → Terms ℕ)
     → ((ρ : Terming) → G ρ ≡ K ρ) → Added sig a b out out' n X G s s' → Added sig a b out out' n X K s s'
-added-goals {sig} K same p = record {
+added_goals {sig} K same p = record {
   words = p.words;
   longer = p.longer;
   exact = p.exact;
@@ -233,9 +233,9 @@ added-goals {sig} K same p = record {
 }
 
 -- the script goes on with no words
-pub added-on : {sig : Signature} {a b c : Phase} {out out' : List ℕ} {n : ℕ} {X : Terming → Terming → Type 0} {G : Terming → Terms ℕ} {s s' : List Bool}
+pub added_on : {sig : Signature} {a b c : Phase} {out out' : List ℕ} {n : ℕ} {X : Terming → Terming → Type 0} {G : Terming → Terms ℕ} {s s' : List Bool}
     → Script sig b c [] → Added sig a b out out' n X G s s' → Added sig a c out out' n X G s s'
-added-on {sig} {a} {c = c} on p = record {
+added_on {sig} {a} {c = c} on p = record {
   words = p.words;
   longer = p.longer;
   exact = p.exact;
@@ -247,9 +247,9 @@ added-on {sig} {a} {c = c} on p = record {
   script = subst (λ l. Script sig a c l) (append-nil p.words) (next p.script on);
 }
 
-pub added-from : {sig : Signature} {a b c : Phase} {out out' : List ℕ} {n : ℕ} {X : Terming → Terming → Type 0} {G : Terming → Terms ℕ} {s s' : List Bool}
+pub added_from : {sig : Signature} {a b c : Phase} {out out' : List ℕ} {n : ℕ} {X : Terming → Terming → Type 0} {G : Terming → Terms ℕ} {s s' : List Bool}
     → Script sig a b [] → Added sig b c out out' n X G s s' → Added sig a c out out' n X G s s'
-added-from on p = record {
+added_from on p = record {
   words = p.words;
   longer = p.longer;
   exact = p.exact;

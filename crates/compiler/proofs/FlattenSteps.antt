@@ -21,17 +21,17 @@ pub flat_start : (sig : Signature) (all : List Word) (names : Signature) → nam
 flat_start sig all names e c s = record { V = []; named = e; goals = refl; args = refl; after = refl; covered = c; short = s }
 
 module _ {sig : Signature} {all : List Word} {names : Signature} {need : ℕ} {left : List Word} {preds : List ℕ} {its : List Item} (was : Flattening sig all names need left preds its) (w : Word) (left' : List Word) (next : left ≡ w ∷ left') where
-  pub knows-next : Knows sig w
-  knows-next = (subst (Covers sig) next was.covered).0
+  pub knows_next : Knows sig w
+  knows_next = (subst (Covers sig) next was.covered).0
 
-  pub short-next : Short w
-  short-next = (subst Shorts next was.short).0
+  pub short_next : Short w
+  short_next = (subst Shorts next was.short).0
 
-  pub goal-room : need ≡ 0 → length preds < length (predicates sig 0 all)
-  goal-room z = omega (arith, ap length (sym was.goals), length-append preds (predicates sig need left), ap length (ap₂ (predicates sig) z next))
+  pub goal_room : need ≡ 0 → length preds < length (predicates sig 0 all)
+  goal_room z = omega (arith, ap length (sym was.goals), length-append preds (predicates sig need left), ap length (ap₂ (predicates sig) z next))
 
-  pub goal-next : need ≡ 0 → (x : ℕ) → x ≡ predicate_for sig w → Flattening sig all names (arity w) left' (preds ++ x ∷ []) its
-  goal-next z x is = record {
+  pub goal_next : need ≡ 0 → (x : ℕ) → x ≡ predicate_for sig w → Flattening sig all names (arity w) left' (preds ++ x ∷ []) its
+  goal_next z x is = record {
     V = was.V;
     named = was.named;
     goals = append_assoc preds (x ∷ []) (predicates sig (arity w) left') ∙ ap (λ y. preds ++ y ∷ predicates sig (arity w) left') is ∙ ap (λ l. preds ++ l) (sym (ap₂ (predicates sig) z next)) ∙ was.goals;
@@ -42,12 +42,12 @@ module _ {sig : Signature} {all : List Word} {names : Signature} {need : ℕ} {l
   }
 
   module _ (some : need ≡ suc (need - 1)) where
-    pub argument-room : length its < length (items sig [] 0 all)
-    argument-room = omega (arith, ap length (sym was.args), length-append its (items sig was.V need left), ap length (ap₂ (items sig was.V) some next))
+    pub argument_room : length its < length (items sig [] 0 all)
+    argument_room = omega (arith, ap length (sym was.args), length-append its (items sig was.V need left), ap length (ap₂ (items sig was.V) some next))
 
-    pub argument-next : (names' : Signature) (k : Item) → ((V : List Variable) → names ≡ names_of V → k ≡ item_for sig V w) → ((V : List Variable) → names ≡ names_of V → names' ≡ names_of (noted_by V w))
+    pub argument_next : (names' : Signature) (k : Item) → ((V : List Variable) → names ≡ names_of V → k ≡ item_for sig V w) → ((V : List Variable) → names ≡ names_of V → names' ≡ names_of (noted_by V w))
         → Flattening sig all names' (arity w + (need - 1)) left' preds (its ++ k ∷ [])
-    argument-next names' k is noted = record {
+    argument_next names' k is noted = record {
       V = noted_by was.V w;
       named = noted was.V was.named;
       goals = ap (λ l. preds ++ l) (sym (ap₂ (predicates sig) some next)) ∙ was.goals;
@@ -61,14 +61,14 @@ module _ {sig : Signature} {all : List Word} {names : Signature} {need : ℕ} {l
     }
 
 module _ {sig : Signature} {all : List Word} {names : Signature} {need : ℕ} {left : List Word} {preds : List ℕ} {its : List Item} (was : Flattening sig all names need left preds its) (over : left ≡ []) where
-  pub goals-end : preds ≡ predicates sig 0 all
-  goals-end = sym (append-nil preds) ∙ ap (λ l. preds ++ l) (sym (ap (predicates sig need) over)) ∙ was.goals
+  pub goals_end : preds ≡ predicates sig 0 all
+  goals_end = sym (append-nil preds) ∙ ap (λ l. preds ++ l) (sym (ap (predicates sig need) over)) ∙ was.goals
 
-  pub arguments-end : its ≡ items sig [] 0 all
-  arguments-end = sym (append-nil its) ∙ ap (λ l. its ++ l) (sym (ap (items sig was.V need) over)) ∙ was.args
+  pub arguments_end : its ≡ items sig [] 0 all
+  arguments_end = sym (append-nil its) ∙ ap (λ l. its ++ l) (sym (ap (items sig was.V need) over)) ∙ was.args
 
-  pub after-end : names ≡ names_of (variables_after [] 0 all)
-  after-end = was.named ∙ ap names_of (sym (ap (variables_after was.V need) over) ∙ was.after)
+  pub after_end : names ≡ names_of (variables_after [] 0 all)
+  after_end = was.named ∙ ap names_of (sym (ap (variables_after was.V need) over) ∙ was.after)
 
-pub take-push : {X : Type 0} (xs : List X) (i : ℕ) (x : X) → i < length xs → take (i + 1) (set xs i x) ≡ take i xs ++ x ∷ []
-take-push xs i x lt = ap (λ k. take k (set xs i x)) (add-one i) ∙ take-suc-set xs i x lt
+pub take_push : {X : Type 0} (xs : List X) (i : ℕ) (x : X) → i < length xs → take (i + 1) (set xs i x) ≡ take i xs ++ x ∷ []
+take_push xs i x lt = ap (λ k. take k (set xs i x)) (add-one i) ∙ take-suc-set xs i x lt

@@ -12,11 +12,11 @@ pushed words at w i lt is back = record {
   exact = ap decode (sym is) ∙ back;
 }
 
-pub onto-none : (words : List ℕ) (at : ℕ) → Onto words words at at 0
-onto-none words at = record { counted = omega arith; rest = λ k le. refl }
+pub onto_none : (words : List ℕ) (at : ℕ) → Onto words words at at 0
+onto_none words at = record { counted = omega arith; rest = λ k le. refl }
 
-pub onto-then : (words words' words'' : List ℕ) (at next end n m l : ℕ) → Onto words words' at next n → Onto words' words'' next end m → n + m ≡ l → Onto words words'' at end l
-onto-then words words' words'' at next end n m l p q e = record {
+pub onto_then : (words words' words'' : List ℕ) (at next end n m l : ℕ) → Onto words words' at next n → Onto words' words'' next end m → n + m ≡ l → Onto words words'' at end l
+onto_then words words' words'' at next end n m l p q e = record {
   counted = omega (arith, p.counted, q.counted);
   rest = λ k le. q.rest k le ∙ p.rest k (omega (arith, q.counted));
 }

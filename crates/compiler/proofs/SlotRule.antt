@@ -16,15 +16,15 @@ use Rattle.code.specs.Passes.{held, can_read, can_set, marked, slot_pass}
 use Rattle.code.proofs.ArgumentLaws.{below_all}
 
 -- a slot that is empty or filled is one of them
-pub empty-in : (s : List Bool) (y : ℕ) → Empty s y → y < length s
-empty-in s y e = elim (cases_lt y (length s)) [ inl l ↦ l | inr g ↦ (let z : true ≡ false = sym (get_or_past s y true g) ∙ e in let q : ◌≡◌ {A = ℕ} 0 1 = cc in absurd (omega arith)) ]
+pub empty_in : (s : List Bool) (y : ℕ) → Empty s y → y < length s
+empty_in s y e = elim (cases_lt y (length s)) [ inl l ↦ l | inr g ↦ (let z : true ≡ false = sym (get_or_past s y true g) ∙ e in let q : ◌≡◌ {A = ℕ} 0 1 = cc in absurd (omega arith)) ]
 
 pub filled_in : (s : List Bool) (y : ℕ) → Filled s y → y < length s
 filled_in s y e = elim (cases_lt y (length s)) [ inl l ↦ l | inr g ↦ (let z : false ≡ true = sym (get_or_past s y false g) ∙ e in let q : ◌≡◌ {A = ℕ} 0 1 = cc in absurd (omega arith)) ]
 
-not-both : (s : List Bool) (y : ℕ) → Empty s y → Filled s y → ⊥
-not-both s y e f =
-    let a : get_or s y true ≡ get_or s y false = get_or_default s y true false (empty-in s y e) in
+not_both : (s : List Bool) (y : ℕ) → Empty s y → Filled s y → ⊥
+not_both s y e f =
+    let a : get_or s y true ≡ get_or s y false = get_or_default s y true false (empty_in s y e) in
     let z : true ≡ false = sym f ∙ sym a ∙ e in
     let q : ◌≡◌ {A = ℕ} 0 1 = cc in omega arith
 
@@ -37,32 +37,32 @@ unfilled s y z lt e =
     let c : ◌≡◌ {A = ℕ} 0 1 = cc in omega arith) in
     (ne, sym (get_or-set_other s y z true true (λ q. ne (sym q))) ∙ e)
 
-was-empty : (o : Operand) (s : List Bool) (z : ℕ) → Fits o s → Empty (fill o s) z → Empty s z
-was-empty (Fresh y) s z f e = (unfilled s y z (empty-in s y f) e).1
-was-empty (Known y) s z f e = e
-was-empty (Constant c) s z f e = e
+was_empty : (o : Operand) (s : List Bool) (z : ℕ) → Fits o s → Empty (fill o s) z → Empty s z
+was_empty (Fresh y) s z f e = (unfilled s y z (empty_in s y f) e).1
+was_empty (Known y) s z f e = e
+was_empty (Constant c) s z f e = e
 
 -- the slot that is due is empty
-pub due-empty : (sig : Signature) (k z : ℕ) (ws : List Instruction) (s : List Bool) → Orderly sig (suc k) z ws s → Empty s z
-due-empty sig k z [] s h = absurd h
-due-empty sig zero z (Set o ∷ ws) s h = was-empty o s z h.1 h.2
-due-empty sig (suc k) z (Set o ∷ ws) s h = was-empty o s z h.1 (due-empty sig k z ws (fill o s) h.2)
-due-empty sig zero z (Allocate n ∷ ws) s h = absurd h.0
-due-empty sig zero z (Get o a ∷ ws) s h = absurd h.0
-due-empty sig zero z (GetStructure y f ∷ ws) s h = absurd h.0
-due-empty sig zero z (Unify o ∷ ws) s h = absurd h.0
-due-empty sig zero z (Put o a ∷ ws) s h = absurd h.0
-due-empty sig zero z (PutStructure y f ∷ ws) s h = absurd h.0
-due-empty sig zero z (Call p ∷ ws) s h = absurd h.0
-due-empty sig zero z (Proceed ∷ ws) s h = absurd h.0
-due-empty sig (suc k) z (Allocate n ∷ ws) s h = absurd h.0
-due-empty sig (suc k) z (Get o a ∷ ws) s h = absurd h.0
-due-empty sig (suc k) z (GetStructure y f ∷ ws) s h = absurd h.0
-due-empty sig (suc k) z (Unify o ∷ ws) s h = absurd h.0
-due-empty sig (suc k) z (Put o a ∷ ws) s h = absurd h.0
-due-empty sig (suc k) z (PutStructure y f ∷ ws) s h = absurd h.0
-due-empty sig (suc k) z (Call p ∷ ws) s h = absurd h.0
-due-empty sig (suc k) z (Proceed ∷ ws) s h = absurd h.0
+pub due_empty : (sig : Signature) (k z : ℕ) (ws : List Instruction) (s : List Bool) → Orderly sig (suc k) z ws s → Empty s z
+due_empty sig k z [] s h = absurd h
+due_empty sig zero z (Set o ∷ ws) s h = was_empty o s z h.1 h.2
+due_empty sig (suc k) z (Set o ∷ ws) s h = was_empty o s z h.1 (due_empty sig k z ws (fill o s) h.2)
+due_empty sig zero z (Allocate n ∷ ws) s h = absurd h.0
+due_empty sig zero z (Get o a ∷ ws) s h = absurd h.0
+due_empty sig zero z (GetStructure y f ∷ ws) s h = absurd h.0
+due_empty sig zero z (Unify o ∷ ws) s h = absurd h.0
+due_empty sig zero z (Put o a ∷ ws) s h = absurd h.0
+due_empty sig zero z (PutStructure y f ∷ ws) s h = absurd h.0
+due_empty sig zero z (Call p ∷ ws) s h = absurd h.0
+due_empty sig zero z (Proceed ∷ ws) s h = absurd h.0
+due_empty sig (suc k) z (Allocate n ∷ ws) s h = absurd h.0
+due_empty sig (suc k) z (Get o a ∷ ws) s h = absurd h.0
+due_empty sig (suc k) z (GetStructure y f ∷ ws) s h = absurd h.0
+due_empty sig (suc k) z (Unify o ∷ ws) s h = absurd h.0
+due_empty sig (suc k) z (Put o a ∷ ws) s h = absurd h.0
+due_empty sig (suc k) z (PutStructure y f ∷ ws) s h = absurd h.0
+due_empty sig (suc k) z (Call p ∷ ws) s h = absurd h.0
+due_empty sig (suc k) z (Proceed ∷ ws) s h = absurd h.0
 
 -- T has for each slot 0, or the place from which on it may be read; at word i it says of the slots s what they are, but for z
 pub record Ties (i : ℕ) (s : List Bool) (T : List ℕ) (n : ℕ) (Off : ℕ → Type 0) : Type 0 where
@@ -71,15 +71,15 @@ pub record Ties (i : ℕ) (s : List Bool) (T : List ℕ) (n : ℕ) (Off : ℕ �
   pub filled : (y : ℕ) → Filled s y → (Off y → ⊥) → (1 ≤ get_or T y 0) × (get_or T y 0 ≤ i)
   pub empty : (y : ℕ) → Empty s y → (Off y → ⊥) → get_or T y 0 ≡ 0
 
-abbrev None-off : ℕ → Type 0
-None-off y = ⊥
+abbrev None_off : ℕ → Type 0
+None_off y = ⊥
 
 later : {s : List Bool} {T : List ℕ} {n : ℕ} {Off : ℕ → Type 0} (i : ℕ) → Ties i s T n Off → Ties (i + 1) s T n Off
 later i t = record { size = t.size; long = t.long; filled = λ y f o. ((t.filled y f o).0, omega (arith, (t.filled y f o).1)); empty = t.empty }
 
 -- a slot is filled by the word i
-filled-now : {s : List Bool} {T : List ℕ} {n : ℕ} {Off : ℕ → Type 0} (i y : ℕ) → y < length s → Ties i s T n Off → Ties (i + 1) (set s y true) (set T y (i + 1 + 0)) n Off
-filled-now {s} {T} i y lt t = record {
+filled_now : {s : List Bool} {T : List ℕ} {n : ℕ} {Off : ℕ → Type 0} (i y : ℕ) → y < length s → Ties i s T n Off → Ties (i + 1) (set s y true) (set T y (i + 1 + 0)) n Off
+filled_now {s} {T} i y lt t = record {
   size = length-set s y true ∙ t.size;
   long = omega (arith, t.long, length-set T y (i + 1 + 0));
   filled = λ x f o.
@@ -91,13 +91,13 @@ filled-now {s} {T} i y lt t = record {
       (let u = unfilled s y x lt e in get_or-set_other T y x (i + 1 + 0) 0 (λ q. u.0 (sym q)) ∙ t.empty x u.1 o);
 }
 
-can-read : {s : List Bool} {T : List ℕ} {n : ℕ} {Off : ℕ → Type 0} (i y : ℕ) → Ties i s T n Off → Filled s y → (Off y → ⊥) → held (get_or T y 0) i ≡ true
-can-read {T = T} i y t f o =
+can_read_lem : {s : List Bool} {T : List ℕ} {n : ℕ} {Off : ℕ → Type 0} (i y : ℕ) → Ties i s T n Off → Filled s y → (Off y → ⊥) → held (get_or T y 0) i ≡ true
+can_read_lem {T = T} i y t f o =
     let h = t.filled y f o in
     and_from _ _ (ap not (ne_eqb (get_or T y 0) 0 (λ q. let p = h.0 in omega arith))) (le-leb (get_or T y 0) i h.1)
 
-can-set : {s : List Bool} {T : List ℕ} {n : ℕ} {Off : ℕ → Type 0} (i y : ℕ) → Ties i s T n Off → Empty s y → (Off y → ⊥) → eqb (get_or T y 0) 0 ≡ true
-can-set {T = T} i y t e o = eq-eqb (get_or T y 0) 0 (t.empty y e o)
+can_set_lem : {s : List Bool} {T : List ℕ} {n : ℕ} {Off : ℕ → Type 0} (i y : ℕ) → Ties i s T n Off → Empty s y → (Off y → ⊥) → eqb (get_or T y 0) 0 ≡ true
+can_set_lem {T = T} i y t e o = eq-eqb (get_or T y 0) 0 (t.empty y e o)
 
 -- the operand's slot is none of these
 abbrev Free : Operand → (ℕ → Type 0) → Type 0
@@ -105,30 +105,30 @@ Free (Fresh y) Off = Off y → ⊥
 Free (Known y) Off = Off y → ⊥
 Free (Constant c) Off = Unit {0}
 
-free-none : (o : Operand) → Free o None-off
-free-none (Fresh y) = λ x. x
-free-none (Known y) = λ x. x
-free-none (Constant c) = tt
+free_none : (o : Operand) → Free o None_off
+free_none (Fresh y) = λ x. x
+free_none (Known y) = λ x. x
+free_none (Constant c) = tt
 
 -- a slot that is still empty afterwards is not the operand's
-free-due : (o : Operand) (s : List Bool) (z : ℕ) → Fits o s → Empty (fill o s) z → Free o (λ y. y ≡ z)
-free-due (Fresh y) s z f e = (unfilled s y z (empty-in s y f) e).0
-free-due (Known y) s z f e = λ q. not-both s z e (subst (Filled s) q f)
-free-due (Constant c) s z f e = tt
+free_due : (o : Operand) (s : List Bool) (z : ℕ) → Fits o s → Empty (fill o s) z → Free o (λ y. y ≡ z)
+free_due (Fresh y) s z f e = (unfilled s y z (empty_in s y f) e).0
+free_due (Known y) s z f e = λ q. not_both s z e (subst (Filled s) q f)
+free_due (Constant c) s z f e = tt
 
 module _ (sig : Signature) (ar : List ℕ) (same : (f : ℕ) → get_or ar f 0 ≡ arity_at sig f) (n : ℕ) where
   -- an instruction with an operand
-  by-operand : (o : Operand) (i : ℕ) (s : List Bool) (T : List ℕ) (Off : ℕ → Type 0) (ws : List Instruction) → Ties i s T n Off → Fits o s → Free o Off
+  by_operand : (o : Operand) (i : ℕ) (s : List Bool) (T : List ℕ) (Off : ℕ → Type 0) (ws : List Instruction) → Ties i s T n Off → Fits o s → Free o Off
       → ((T' : List ℕ) → Ties (i + 1) (fill o s) T' n Off → ((x : ℕ) → Off x → get_or T' x 0 ≡ get_or T x 0) → slot_pass n ar (i + 1) T' ws ≡ true)
       → (can_read T i (known o) && (can_set T (fresh o) && slot_pass n ar (i + 1) (marked T (fresh o) (i + 1 + 0)) ws)) ≡ true
-  by-operand (Fresh y) i s T Off ws t f off go =
-      and_from _ _ (can-set i y t f off)
-      (go (set T y (i + 1 + 0)) (filled-now i y (empty-in s y f) t) (λ x h. get_or-set_other T y x (i + 1 + 0) 0 (λ q. off (subst Off q h))))
-  by-operand (Known y) i s T Off ws t f off go = and_from _ _ (can-read i y t f off) (go T (later i t) (λ x h. refl))
-  by-operand (Constant c) i s T Off ws t f off go = go T (later i t) (λ x h. refl)
+  by_operand (Fresh y) i s T Off ws t f off go =
+      and_from _ _ (can_set_lem i y t f off)
+      (go (set T y (i + 1 + 0)) (filled_now i y (empty_in s y f) t) (λ x h. get_or-set_other T y x (i + 1 + 0) 0 (λ q. off (subst Off q h))))
+  by_operand (Known y) i s T Off ws t f off go = and_from _ _ (can_read_lem i y t f off) (go T (later i t) (λ x h. refl))
+  by_operand (Constant c) i s T Off ws t f off go = go T (later i t) (λ x h. refl)
 
   -- put_structure's slot waits
-  waiting : (i y m : ℕ) (s : List Bool) (T : List ℕ) → Ties i s T n None-off → Ties (i + 1) s (set T y m) n (λ x. x ≡ y)
+  waiting : (i y m : ℕ) (s : List Bool) (T : List ℕ) → Ties i s T n None_off → Ties (i + 1) s (set T y m) n (λ x. x ≡ y)
   waiting i y m s T t = record {
     size = t.size;
     long = omega (arith, t.long, length-set T y m);
@@ -137,7 +137,7 @@ module _ (sig : Signature) (ar : List ℕ) (same : (f : ℕ) → get_or ar f 0 �
   }
 
   -- it is set after its words
-  arrived : (i z : ℕ) (s : List Bool) (T : List ℕ) → z < length s → Ties i s T n (λ x. x ≡ z) → get_or T z 0 ≡ i → 1 ≤ i → Ties i (set s z true) T n None-off
+  arrived : (i z : ℕ) (s : List Bool) (T : List ℕ) → z < length s → Ties i s T n (λ x. x ≡ z) → get_or T z 0 ≡ i → 1 ≤ i → Ties i (set s z true) T n None_off
   arrived i z s T lt t at some = record {
     size = length-set s z true ∙ t.size;
     long = t.long;
@@ -150,7 +150,7 @@ module _ (sig : Signature) (ar : List ℕ) (same : (f : ℕ) → get_or ar f 0 �
   }
 
   abbrev State : ℕ → ℕ → ℕ → List Bool → List ℕ → Type 0
-  State zero z i s T = Ties i s T n None-off
+  State zero z i s T = Ties i s T n None_off
   State (suc k) z i s T = Ties i s T n (λ y. y ≡ z) × (get_or T z 0 ≡ i + suc k)
 
   pass : (ws : List Instruction) (k z i : ℕ) (s : List Bool) (T : List ℕ) → Orderly sig k z ws s → Lawfuls sig ws → State k z i s T → slot_pass n ar i T ws ≡ true
@@ -158,28 +158,28 @@ module _ (sig : Signature) (ar : List ℕ) (same : (f : ℕ) → get_or ar f 0 �
       below_all n _ (λ y lt. (let f = t.filled y (h y (omega (arith, t.size))) (λ q. q) in ap not (ne_eqb (get_or T y 0) 0 (λ q. let p = f.0 in omega arith))))
   pass [] (suc k) z i s T h l t = absurd h
   pass (Allocate m ∷ ws) zero z i s T h l t = pass ws 0 0 (i + 1) s T h.1 l.1 (later i t)
-  pass (Get o a ∷ ws) zero z i s T h l t = by-operand o i s T None-off ws t h.0 (free-none o) (λ T' t' kept. pass ws 0 0 (i + 1) (fill o s) T' h.1 l.1 t')
-  pass (GetStructure y f ∷ ws) zero z i s T h l t = and_from _ _ (can-read i y t h.0 (λ q. q)) (pass ws 0 0 (i + 1) s T h.1 l.1 (later i t))
-  pass (Unify o ∷ ws) zero z i s T h l t = by-operand o i s T None-off ws t h.0 (free-none o) (λ T' t' kept. pass ws 0 0 (i + 1) (fill o s) T' h.1 l.1 t')
-  pass (Put o a ∷ ws) zero z i s T h l t = by-operand o i s T None-off ws t h.0 (free-none o) (λ T' t' kept. pass ws 0 0 (i + 1) (fill o s) T' h.1 l.1 t')
-  pass (Set o ∷ ws) zero z i s T h l t = by-operand o i s T None-off ws t h.0 (free-none o) (λ T' t' kept. pass ws 0 0 (i + 1) (fill o s) T' h.1 l.1 t')
+  pass (Get o a ∷ ws) zero z i s T h l t = by_operand o i s T None_off ws t h.0 (free_none o) (λ T' t' kept. pass ws 0 0 (i + 1) (fill o s) T' h.1 l.1 t')
+  pass (GetStructure y f ∷ ws) zero z i s T h l t = and_from _ _ (can_read_lem i y t h.0 (λ q. q)) (pass ws 0 0 (i + 1) s T h.1 l.1 (later i t))
+  pass (Unify o ∷ ws) zero z i s T h l t = by_operand o i s T None_off ws t h.0 (free_none o) (λ T' t' kept. pass ws 0 0 (i + 1) (fill o s) T' h.1 l.1 t')
+  pass (Put o a ∷ ws) zero z i s T h l t = by_operand o i s T None_off ws t h.0 (free_none o) (λ T' t' kept. pass ws 0 0 (i + 1) (fill o s) T' h.1 l.1 t')
+  pass (Set o ∷ ws) zero z i s T h l t = by_operand o i s T None_off ws t h.0 (free_none o) (λ T' t' kept. pass ws 0 0 (i + 1) (fill o s) T' h.1 l.1 t')
   pass (Call p ∷ ws) zero z i s T h l t = pass ws 0 0 (i + 1) s T h.1 l.1 (later i t)
   pass (Proceed ∷ ws) zero z i s T h l t = pass ws 0 0 (i + 1) s T h.1 l.1 (later i t)
   pass (PutStructure y f ∷ ws) zero z i s T h l t =
-      let from : (m : ℕ) → arity_at sig f ≡ suc m → Empty s y = λ m e. due-empty sig m y ws s (subst (λ k. Orderly sig k y ws s) e h.1) in
+      let from : (m : ℕ) → arity_at sig f ≡ suc m → Empty s y = λ m e. due_empty sig m y ws s (subst (λ k. Orderly sig k y ws s) e h.1) in
       let m : ℕ = arity_at sig f - 1 in
       let e : arity_at sig f ≡ suc m = (let q = l.0.1 in omega arith) in
       let empty = from m e in
-      and_from _ _ (can-set i y t empty (λ q. q))
+      and_from _ _ (can_set_lem i y t empty (λ q. q))
       (ap (λ k. slot_pass n ar (i + 1) (set T y (i + 1 + k)) ws) (same f ∙ e)
       ∙ pass ws (suc m) y (i + 1) s (set T y (i + 1 + suc m)) (subst (λ k. Orderly sig k y ws s) e h.1) l.1
-      (waiting i y (i + 1 + suc m) s T t, get_or-set_same T y (i + 1 + suc m) 0 (omega (arith, t.long, t.size, empty-in s y empty))))
+      (waiting i y (i + 1 + suc m) s T t, get_or-set_same T y (i + 1 + suc m) 0 (omega (arith, t.long, t.size, empty_in s y empty))))
   pass (Set o ∷ ws) (suc zero) z i s T h l t =
-      by-operand o i s T (λ y. y ≡ z) ws t.0 h.1 (free-due o s z h.1 h.2) (λ T' t' kept.
+      by_operand o i s T (λ y. y ≡ z) ws t.0 h.1 (free_due o s z h.1 h.2) (λ T' t' kept.
       pass ws 0 0 (i + 1) (set (fill o s) z true) T' h.3 l.1
-      (arrived (i + 1) z (fill o s) T' (empty-in (fill o s) z h.2) t' (kept z refl ∙ t.1) (omega arith)))
+      (arrived (i + 1) z (fill o s) T' (empty_in (fill o s) z h.2) t' (kept z refl ∙ t.1) (omega arith)))
   pass (Set o ∷ ws) (suc (suc k)) z i s T h l t =
-      by-operand o i s T (λ y. y ≡ z) ws t.0 h.1 (free-due o s z h.1 (due-empty sig k z ws (fill o s) h.2)) (λ T' t' kept.
+      by_operand o i s T (λ y. y ≡ z) ws t.0 h.1 (free_due o s z h.1 (due_empty sig k z ws (fill o s) h.2)) (λ T' t' kept.
       pass ws (suc k) z (i + 1) (fill o s) T' h.2 l.1 (t', kept z refl ∙ t.1 ∙ omega arith))
   pass (Allocate n ∷ ws) (suc zero) z i s T h l t = absurd h.0
   pass (Allocate n ∷ ws) (suc (suc k)) z i s T h l t = absurd h.0
@@ -202,8 +202,8 @@ module _ (sig : Signature) (ar : List ℕ) (same : (f : ℕ) → get_or ar f 0 �
 abbrev none : List ℕ
 none = replicate 256 0
 
-none-at : (y : ℕ) → get_or none y 0 ≡ 0
-none-at y = elim (cases_lt y 256) [ inl l ↦ get_or-replicate 256 y 0 0 l | inr g ↦ get_or_past none y 0 (let e : length none ≡ 256 = length-replicate {A = ℕ} 256 0 in omega arith) ]
+none_at : (y : ℕ) → get_or none y 0 ≡ 0
+none_at y = elim (cases_lt y 256) [ inl l ↦ get_or-replicate 256 y 0 0 l | inr g ↦ get_or_past none y 0 (let e : length none ≡ 256 = length-replicate {A = ℕ} 256 0 in omega arith) ]
 
 pub slots_kept : (sig : Signature) (ar : List ℕ) (same : (f : ℕ) → get_or ar f 0 ≡ arity_at sig f) (n : ℕ) (ws : List Instruction) → n ≤ 256 → Orderly sig 0 0 ws (replicate n false) → Lawfuls sig ws
     → slot_pass n ar 0 none ws ≡ true
@@ -215,7 +215,7 @@ slots_kept sig ar same n ws few h l =
           (let a : get_or (replicate n false) y false ≡ false = elim (cases_lt y n) [ inl lt ↦ get_or-replicate n y false false lt | inr g ↦ get_or_past (replicate n false) y false (omega (arith, length-replicate n false)) ] in
           let z : true ≡ false = sym f ∙ a in
           let q : ◌≡◌ {A = ℕ} 0 1 = cc in absurd (omega arith));
-      empty = λ y e o. none-at y;
+      empty = λ y e o. none_at y;
     })
 
 -- slots below m
@@ -240,45 +240,45 @@ Insides m [] = Unit {0}
 Insides m (w ∷ ws) = Inside m w × Insides m ws
 
 low : (o : Operand) (s : List Bool) → Fits o s → Low (length s) o
-low (Fresh y) s f = empty-in s y f
+low (Fresh y) s f = empty_in s y f
 low (Known y) s f = filled_in s y f
 low (Constant c) s f = tt
 
-fill-length : (o : Operand) (s : List Bool) → length (fill o s) ≡ length s
-fill-length (Fresh y) s = length-set s y true
-fill-length (Known y) s = refl
-fill-length (Constant c) s = refl
+fill_length : (o : Operand) (s : List Bool) → length (fill o s) ≡ length s
+fill_length (Fresh y) s = length-set s y true
+fill_length (Known y) s = refl
+fill_length (Constant c) s = refl
 
-pub slots-inside : (sig : Signature) (ws : List Instruction) (k z : ℕ) (s : List Bool) → Orderly sig k z ws s → Lawfuls sig ws → Insides (length s) ws
-slots-inside sig [] k z s h l = tt
-slots-inside sig (Allocate n ∷ ws) zero z s h l = (tt, slots-inside sig ws 0 0 s h.1 l.1)
-slots-inside sig (Get o a ∷ ws) zero z s h l = (low o s h.0, subst (λ m. Insides m ws) (fill-length o s) (slots-inside sig ws 0 0 (fill o s) h.1 l.1))
-slots-inside sig (GetStructure y f ∷ ws) zero z s h l = (filled_in s y h.0, slots-inside sig ws 0 0 s h.1 l.1)
-slots-inside sig (Unify o ∷ ws) zero z s h l = (low o s h.0, subst (λ m. Insides m ws) (fill-length o s) (slots-inside sig ws 0 0 (fill o s) h.1 l.1))
-slots-inside sig (Put o a ∷ ws) zero z s h l = (low o s h.0, subst (λ m. Insides m ws) (fill-length o s) (slots-inside sig ws 0 0 (fill o s) h.1 l.1))
-slots-inside sig (Set o ∷ ws) zero z s h l = (low o s h.0, subst (λ m. Insides m ws) (fill-length o s) (slots-inside sig ws 0 0 (fill o s) h.1 l.1))
-slots-inside sig (Call p ∷ ws) zero z s h l = (tt, slots-inside sig ws 0 0 s h.1 l.1)
-slots-inside sig (Proceed ∷ ws) zero z s h l = (tt, slots-inside sig ws 0 0 s h.1 l.1)
-slots-inside sig (PutStructure y f ∷ ws) zero z s h l =
+pub slots_inside : (sig : Signature) (ws : List Instruction) (k z : ℕ) (s : List Bool) → Orderly sig k z ws s → Lawfuls sig ws → Insides (length s) ws
+slots_inside sig [] k z s h l = tt
+slots_inside sig (Allocate n ∷ ws) zero z s h l = (tt, slots_inside sig ws 0 0 s h.1 l.1)
+slots_inside sig (Get o a ∷ ws) zero z s h l = (low o s h.0, subst (λ m. Insides m ws) (fill_length o s) (slots_inside sig ws 0 0 (fill o s) h.1 l.1))
+slots_inside sig (GetStructure y f ∷ ws) zero z s h l = (filled_in s y h.0, slots_inside sig ws 0 0 s h.1 l.1)
+slots_inside sig (Unify o ∷ ws) zero z s h l = (low o s h.0, subst (λ m. Insides m ws) (fill_length o s) (slots_inside sig ws 0 0 (fill o s) h.1 l.1))
+slots_inside sig (Put o a ∷ ws) zero z s h l = (low o s h.0, subst (λ m. Insides m ws) (fill_length o s) (slots_inside sig ws 0 0 (fill o s) h.1 l.1))
+slots_inside sig (Set o ∷ ws) zero z s h l = (low o s h.0, subst (λ m. Insides m ws) (fill_length o s) (slots_inside sig ws 0 0 (fill o s) h.1 l.1))
+slots_inside sig (Call p ∷ ws) zero z s h l = (tt, slots_inside sig ws 0 0 s h.1 l.1)
+slots_inside sig (Proceed ∷ ws) zero z s h l = (tt, slots_inside sig ws 0 0 s h.1 l.1)
+slots_inside sig (PutStructure y f ∷ ws) zero z s h l =
     let m : ℕ = arity_at sig f - 1 in
     let e : arity_at sig f ≡ suc m = (let q = l.0.1 in omega arith) in
-    (empty-in s y (due-empty sig m y ws s (subst (λ k. Orderly sig k y ws s) e h.1)), slots-inside sig ws (arity_at sig f) y s h.1 l.1)
-slots-inside sig (Set o ∷ ws) (suc zero) z s h l =
-    (low o s h.1, subst (λ m. Insides m ws) (length-set (fill o s) z true ∙ fill-length o s) (slots-inside sig ws 0 0 (set (fill o s) z true) h.3 l.1))
-slots-inside sig (Set o ∷ ws) (suc (suc k)) z s h l = (low o s h.1, subst (λ m. Insides m ws) (fill-length o s) (slots-inside sig ws (suc k) z (fill o s) h.2 l.1))
-slots-inside sig (Allocate n ∷ ws) (suc zero) z s h l = absurd h.0
-slots-inside sig (Allocate n ∷ ws) (suc (suc k)) z s h l = absurd h.0
-slots-inside sig (Get o a ∷ ws) (suc zero) z s h l = absurd h.0
-slots-inside sig (Get o a ∷ ws) (suc (suc k)) z s h l = absurd h.0
-slots-inside sig (GetStructure y f ∷ ws) (suc zero) z s h l = absurd h.0
-slots-inside sig (GetStructure y f ∷ ws) (suc (suc k)) z s h l = absurd h.0
-slots-inside sig (Unify o ∷ ws) (suc zero) z s h l = absurd h.0
-slots-inside sig (Unify o ∷ ws) (suc (suc k)) z s h l = absurd h.0
-slots-inside sig (Put o a ∷ ws) (suc zero) z s h l = absurd h.0
-slots-inside sig (Put o a ∷ ws) (suc (suc k)) z s h l = absurd h.0
-slots-inside sig (PutStructure y f ∷ ws) (suc zero) z s h l = absurd h.0
-slots-inside sig (PutStructure y f ∷ ws) (suc (suc k)) z s h l = absurd h.0
-slots-inside sig (Call p ∷ ws) (suc zero) z s h l = absurd h.0
-slots-inside sig (Call p ∷ ws) (suc (suc k)) z s h l = absurd h.0
-slots-inside sig (Proceed ∷ ws) (suc zero) z s h l = absurd h.0
-slots-inside sig (Proceed ∷ ws) (suc (suc k)) z s h l = absurd h.0
+    (empty_in s y (due_empty sig m y ws s (subst (λ k. Orderly sig k y ws s) e h.1)), slots_inside sig ws (arity_at sig f) y s h.1 l.1)
+slots_inside sig (Set o ∷ ws) (suc zero) z s h l =
+    (low o s h.1, subst (λ m. Insides m ws) (length-set (fill o s) z true ∙ fill_length o s) (slots_inside sig ws 0 0 (set (fill o s) z true) h.3 l.1))
+slots_inside sig (Set o ∷ ws) (suc (suc k)) z s h l = (low o s h.1, subst (λ m. Insides m ws) (fill_length o s) (slots_inside sig ws (suc k) z (fill o s) h.2 l.1))
+slots_inside sig (Allocate n ∷ ws) (suc zero) z s h l = absurd h.0
+slots_inside sig (Allocate n ∷ ws) (suc (suc k)) z s h l = absurd h.0
+slots_inside sig (Get o a ∷ ws) (suc zero) z s h l = absurd h.0
+slots_inside sig (Get o a ∷ ws) (suc (suc k)) z s h l = absurd h.0
+slots_inside sig (GetStructure y f ∷ ws) (suc zero) z s h l = absurd h.0
+slots_inside sig (GetStructure y f ∷ ws) (suc (suc k)) z s h l = absurd h.0
+slots_inside sig (Unify o ∷ ws) (suc zero) z s h l = absurd h.0
+slots_inside sig (Unify o ∷ ws) (suc (suc k)) z s h l = absurd h.0
+slots_inside sig (Put o a ∷ ws) (suc zero) z s h l = absurd h.0
+slots_inside sig (Put o a ∷ ws) (suc (suc k)) z s h l = absurd h.0
+slots_inside sig (PutStructure y f ∷ ws) (suc zero) z s h l = absurd h.0
+slots_inside sig (PutStructure y f ∷ ws) (suc (suc k)) z s h l = absurd h.0
+slots_inside sig (Call p ∷ ws) (suc zero) z s h l = absurd h.0
+slots_inside sig (Call p ∷ ws) (suc (suc k)) z s h l = absurd h.0
+slots_inside sig (Proceed ∷ ws) (suc zero) z s h l = absurd h.0
+slots_inside sig (Proceed ∷ ws) (suc (suc k)) z s h l = absurd h.0

@@ -8,53 +8,53 @@ use Rattle.compiler.specs.Reading.{Whole}
 use Rattle.compiler.specs.Places.{Plan, width, Run, Ends}
 use Rattle.compiler.specs.Lines.{plan, Numbered}
 use Rattle.compiler.specs.Tables.{table}
-use Rattle.compiler.proofs.PlaceLaws.{run_up, run-within}
-use Rattle.compiler.proofs.ReadLaws.{stack, run-there}
+use Rattle.compiler.proofs.PlaceLaws.{run_up, run_within}
+use Rattle.compiler.proofs.ReadLaws.{stack, run_there}
 use Rattle.compiler.specs.declared.items.Item.{Item}
 use Rattle.compiler.specs.declared.items.Item.TheVariants.{Atom, Structure, Variable}
 
-hop-suc : (e : ℕ → ℕ) (k j : ℕ) → hop e (suc k) j ≡ e (hop e k j)
-hop-suc e zero j = refl
-hop-suc e (suc k) j = hop-suc e k (e j)
+hop_suc : (e : ℕ → ℕ) (k j : ℕ) → hop e (suc k) j ≡ e (hop e k j)
+hop_suc e zero j = refl
+hop_suc e (suc k) j = hop_suc e k (e j)
 
-pub hop-more : (e : ℕ → ℕ) (k j : ℕ) → hop e (k + 1) j ≡ e (hop e k j)
-hop-more e k j = ap (λ n. hop e n j) (add-one k) ∙ hop-suc e k j
+pub hop_more : (e : ℕ → ℕ) (k j : ℕ) → hop e (k + 1) j ≡ e (hop e k j)
+hop_more e k j = ap (λ n. hop e n j) (add-one k) ∙ hop_suc e k j
 
 pub run_at : (e : ℕ → ℕ) (end n j m k : ℕ) → Run e end n j m → k < n → hop e k j < end
 run_at e end zero j m k r h = absurd (omega arith)
 run_at e end (suc n) j m zero r h = r.0
 run_at e end (suc n) j m (suc k) r h = run_at e end n (e j) m k r.1 (omega arith)
 
-pub run-hop : (e : ℕ → ℕ) (end n j m : ℕ) → Run e end n j m → m ≡ hop e n j
-run-hop e end zero j m r = sym r
-run-hop e end (suc n) j m r = run-hop e end n (e j) m r.1
+pub run_hop : (e : ℕ → ℕ) (end n j m : ℕ) → Run e end n j m → m ≡ hop e n j
+run_hop e end zero j m r = sym r
+run_hop e end (suc n) j m r = run_hop e end n (e j) m r.1
 
 -- a run, with its number and its end as the code has them
-pub run-own : (e : ℕ → ℕ) (end n j m k : ℕ) → Run e end n j m → k ≡ n → Run e end k j (hop e k j)
-run-own e end n j m k r q = subst (λ x. Run e end x j (hop e x j)) (sym q) (subst (λ x. Run e end n j x) (run-hop e end n j m r) r)
+pub run_own : (e : ℕ → ℕ) (end n j m k : ℕ) → Run e end n j m → k ≡ n → Run e end k j (hop e k j)
+run_own e end n j m k r q = subst (λ x. Run e end x j (hop e x j)) (sym q) (subst (λ x. Run e end n j x) (run_hop e end n j m r) r)
 
-pub run-to : (e : ℕ → ℕ) (end n j m k : ℕ) → Run e end n j (hop e n j) → k ≡ n → m ≡ hop e k j → Run e end n j m
-run-to e end n j m k r q is = subst (λ x. Run e end n j x) (sym (is ∙ ap (λ x. hop e x j) q)) r
+pub run_to : (e : ℕ → ℕ) (end n j m k : ℕ) → Run e end n j (hop e n j) → k ≡ n → m ≡ hop e k j → Run e end n j m
+run_to e end n j m k r q is = subst (λ x. Run e end n j x) (sym (is ∙ ap (λ x. hop e x j) q)) r
 
-pub whole-at : (sig : Signature) (ts : List Item) (i : ℕ) → Whole sig ts → i < length ts → width sig (get_or ts i (Atom 0)) ≤ count (stack sig ts (suc i))
-whole-at sig [] i w lt = absurd (omega arith)
-whole-at sig (Atom c ∷ ts) zero w lt = omega arith
-whole-at sig (Structure f ∷ ts) zero w lt = w.0
-whole-at sig (Variable v ∷ ts) zero w lt = omega arith
-whole-at sig (Atom c ∷ ts) (suc i) w lt = whole-at sig ts i w (omega arith)
-whole-at sig (Structure f ∷ ts) (suc i) w lt = whole-at sig ts i w.1 (omega arith)
-whole-at sig (Variable v ∷ ts) (suc i) w lt = whole-at sig ts i w (omega arith)
+pub whole_at : (sig : Signature) (ts : List Item) (i : ℕ) → Whole sig ts → i < length ts → width sig (get_or ts i (Atom 0)) ≤ count (stack sig ts (suc i))
+whole_at sig [] i w lt = absurd (omega arith)
+whole_at sig (Atom c ∷ ts) zero w lt = omega arith
+whole_at sig (Structure f ∷ ts) zero w lt = w.0
+whole_at sig (Variable v ∷ ts) zero w lt = omega arith
+whole_at sig (Atom c ∷ ts) (suc i) w lt = whole_at sig ts i w (omega arith)
+whole_at sig (Structure f ∷ ts) (suc i) w lt = whole_at sig ts i w.1 (omega arith)
+whole_at sig (Variable v ∷ ts) (suc i) w lt = whole_at sig ts i w (omega arith)
 
 module _ {p : Plan} {lo : ℕ} (ends : Ends p lo) (e : ℕ → ℕ) (same : (k : ℕ) → lo ≤ k → e k ≡ p.after k) where
-  run-same : (n j m : ℕ) → lo ≤ j → Run p.after p.size n j m → Run e p.size n j m
-  run-same zero j m low r = r
-  run-same (suc n) j m low r =
+  run_same : (n j m : ℕ) → lo ≤ j → Run p.after p.size n j m → Run e p.size n j m
+  run_same zero j m low r = r
+  run_same (suc n) j m low r =
       let f = ends.forth j low r.0 in
-      (r.0, subst (λ x. Run e p.size n x m) (sym (same j low)) (run-same n (p.after j) m (omega arith) r.1))
+      (r.0, subst (λ x. Run e p.size n x m) (sym (same j low)) (run_same n (p.after j) m (omega arith) r.1))
 
 -- before the first turn, no place is left
-pub ends-none : (sig : Signature) (ts : List Item) (es ss : List ℕ) (n : ℕ) → length ts ≤ n → Ends (plan sig ts es ss) n
-ends-none sig ts es ss n h = record { forth = λ i lo lt. absurd (omega arith); within = λ i lo lt. absurd (omega arith); runs = λ i lo lt. absurd (omega arith) }
+pub ends_none : (sig : Signature) (ts : List Item) (es ss : List ℕ) (n : ℕ) → length ts ≤ n → Ends (plan sig ts es ss) n
+ends_none sig ts es ss n h = record { forth = λ i lo lt. absurd (omega arith); within = λ i lo lt. absurd (omega arith); runs = λ i lo lt. absurd (omega arith) }
 
 module _ (sig : Signature) (ts : List Item) (es ss : List ℕ) (i : ℕ) (whole : Whole sig ts) (ends : Ends (plan sig ts es ss) (i + 1)) (lt : i < length ts) where
   abbrev wd : ℕ
@@ -63,8 +63,8 @@ module _ (sig : Signature) (ts : List Item) (es ss : List ℕ) (i : ℕ) (whole 
   abbrev stop : ℕ
   stop = hop (table es) wd (i + 1)
 
-  pub next-run : Run (table es) (length ts) wd (i + 1) stop
-  next-run = run-there sig ts es ss (i + 1) ends wd (i + 1) (omega arith) (subst (λ k. wd ≤ count (stack sig ts k)) (sym (add-one i)) (whole-at sig ts i whole lt))
+  pub next_run : Run (table es) (length ts) wd (i + 1) stop
+  next_run = run_there sig ts es ss (i + 1) ends wd (i + 1) (omega arith) (subst (λ k. wd ≤ count (stack sig ts k)) (sym (add-one i)) (whole_at sig ts i whole lt))
 
   module _ (long : length es ≡ length ts) where
     other : (k : ℕ) → i + 1 ≤ k → table (set es i stop) k ≡ table es k
@@ -77,12 +77,12 @@ module _ (sig : Signature) (ts : List Item) (es ss : List ℕ) (i : ℕ) (whole 
     ends_more = record {
       forth = λ k lo hi.
           elim (ℕ_discrete k i) [
-            | yes q ↦ omega (arith, ap (table (set es i stop)) q, this, run_up ends wd (i + 1) stop (omega arith) next-run)
+            | yes q ↦ omega (arith, ap (table (set es i stop)) q, this, run_up ends wd (i + 1) stop (omega arith) next_run)
             | no ne ↦ omega (arith, other k (omega arith), ends.forth k (omega arith) hi)
           ];
       within = λ k lo hi.
           elim (ℕ_discrete k i) [
-            | yes q ↦ omega (arith, ap (table (set es i stop)) q, this, run-within ends wd (i + 1) stop (omega arith) next-run (omega arith))
+            | yes q ↦ omega (arith, ap (table (set es i stop)) q, this, run_within ends wd (i + 1) stop (omega arith) next_run (omega arith))
             | no ne ↦ omega (arith, other k (omega arith), ends.within k (omega arith) hi)
           ];
       runs = λ k lo hi.
@@ -90,43 +90,43 @@ module _ (sig : Signature) (ts : List Item) (es ss : List ℕ) (i : ℕ) (whole 
             | yes q ↦
                 subst (λ x. Run (table (set es i stop)) (length ts) (width sig (get_or ts x (Atom 0))) (suc x) (table (set es i stop) x)) (sym q)
                 (subst (λ x. Run (table (set es i stop)) (length ts) wd (suc i) x) (sym this)
-                (subst (λ x. Run (table (set es i stop)) (length ts) wd x stop) (add-one i) (run-same ends (table (set es i stop)) other wd (i + 1) stop (omega arith) next-run)))
+                (subst (λ x. Run (table (set es i stop)) (length ts) wd x stop) (add-one i) (run_same ends (table (set es i stop)) other wd (i + 1) stop (omega arith) next_run)))
             | no ne ↦
                 subst (λ x. Run (table (set es i stop)) (length ts) (width sig (get_or ts k (Atom 0))) (suc k) x) (sym (other k (omega arith)))
-                (run-same ends (table (set es i stop)) other (width sig (get_or ts k (Atom 0))) (suc k) (table es k) (omega arith) (ends.runs k (omega arith) hi))
+                (run_same ends (table (set es i stop)) other (width sig (get_or ts k (Atom 0))) (suc k) (table es k) (omega arith) (ends.runs k (omega arith) hi))
           ];
     }
 
 -- the same turn, as the code has it: i is one more than the place that is filled, and es₀ is the table as it was lent
 module _ (sig : Signature) (ts : List Item) {es es₀ : List ℕ} (ss : List ℕ) (i w : ℕ) (whole : Whole sig ts) (ends : Ends (plan sig ts es ss) i) (some : 0 < i) (lt : i ≤ length ts)
     (passed : es₀ ≡ es) (long : length es ≡ length ts) (wide : w ≡ width sig (get_or ts (i - 1) (Atom 0))) where
-  ends-back : Ends (plan sig ts es ss) (i - 1 + 1)
-  ends-back = let q : i ≡ i - 1 + 1 = omega arith in subst (λ k. Ends (plan sig ts es ss) k) q ends
+  ends_back : Ends (plan sig ts es ss) (i - 1 + 1)
+  ends_back = let q : i ≡ i - 1 + 1 = omega arith in subst (λ k. Ends (plan sig ts es ss) k) q ends
 
-  pub turn-run : Run (table es₀) (length es₀) w (i - 1 + 1) (hop (table es₀) w (i - 1 + 1))
-  turn-run =
+  pub turn_run : Run (table es₀) (length es₀) w (i - 1 + 1) (hop (table es₀) w (i - 1 + 1))
+  turn_run =
       subst (λ l. Run (table l) (length l) w (i - 1 + 1) (hop (table l) w (i - 1 + 1))) (sym passed)
       (subst (λ n. Run (table es) n w (i - 1 + 1) (hop (table es) w (i - 1 + 1))) (sym long)
-      (subst (λ n. Run (table es) (length ts) n (i - 1 + 1) (hop (table es) n (i - 1 + 1))) (sym wide) (next-run sig ts es ss (i - 1) whole ends-back (omega arith))))
+      (subst (λ n. Run (table es) (length ts) n (i - 1 + 1) (hop (table es) n (i - 1 + 1))) (sym wide) (next_run sig ts es ss (i - 1) whole ends_back (omega arith))))
 
-  pub turn-ends : (r : ℕ) → r ≡ hop (table es₀) w (i - 1 + 1) → Ends (plan sig ts (set es (i - 1) r) ss) (i - 1)
-  turn-ends r q =
+  pub turn_ends : (r : ℕ) → r ≡ hop (table es₀) w (i - 1 + 1) → Ends (plan sig ts (set es (i - 1) r) ss) (i - 1)
+  turn_ends r q =
       subst (λ x. Ends (plan sig ts (set es (i - 1) x) ss) (i - 1)) (sym (q ∙ ap₂ (λ l n. hop (table l) n (i - 1 + 1)) passed wide))
-      (ends_more sig ts es ss (i - 1) whole ends-back (omega arith) long)
+      (ends_more sig ts es ss (i - 1) whole ends_back (omega arith) long)
 
-pub numbered-at : (n : ℕ) (ts : List Item) (i v : ℕ) → Numbered n ts → get_or ts i (Atom 0) ≡ Variable v → v < n
-numbered-at n [] i v num q = let z : ◌≡◌ {A = ℕ} 0 1 = cc in absurd (omega arith)
-numbered-at n (Atom c ∷ ts) zero v num q = let z : ◌≡◌ {A = ℕ} 0 1 = cc in absurd (omega arith)
-numbered-at n (Structure f ∷ ts) zero v num q = let z : ◌≡◌ {A = ℕ} 0 1 = cc in absurd (omega arith)
-numbered-at n (Variable w ∷ ts) zero v num q = let z : w ≡ v = cc in subst (λ x. x < n) z num.0
-numbered-at n (Atom c ∷ ts) (suc i) v num q = numbered-at n ts i v num q
-numbered-at n (Structure f ∷ ts) (suc i) v num q = numbered-at n ts i v num q
-numbered-at n (Variable w ∷ ts) (suc i) v num q = numbered-at n ts i v num.1 q
+pub numbered_at : (n : ℕ) (ts : List Item) (i v : ℕ) → Numbered n ts → get_or ts i (Atom 0) ≡ Variable v → v < n
+numbered_at n [] i v num q = let z : ◌≡◌ {A = ℕ} 0 1 = cc in absurd (omega arith)
+numbered_at n (Atom c ∷ ts) zero v num q = let z : ◌≡◌ {A = ℕ} 0 1 = cc in absurd (omega arith)
+numbered_at n (Structure f ∷ ts) zero v num q = let z : ◌≡◌ {A = ℕ} 0 1 = cc in absurd (omega arith)
+numbered_at n (Variable w ∷ ts) zero v num q = let z : w ≡ v = cc in subst (λ x. x < n) z num.0
+numbered_at n (Atom c ∷ ts) (suc i) v num q = numbered_at n ts i v num q
+numbered_at n (Structure f ∷ ts) (suc i) v num q = numbered_at n ts i v num q
+numbered_at n (Variable w ∷ ts) (suc i) v num q = numbered_at n ts i v num.1 q
 
 -- the terms of a structure stand after it
-pub structure-run : (p : Plan) → Ends p 0 → (i f : ℕ) → i < p.size → p.tok i ≡ Structure f → Run p.after p.size (arity_at p.sig f) (i + 1) (hop p.after (arity_at p.sig f) (i + 1))
-structure-run p ends i f lt is =
+pub structure_run : (p : Plan) → Ends p 0 → (i f : ℕ) → i < p.size → p.tok i ≡ Structure f → Run p.after p.size (arity_at p.sig f) (i + 1) (hop p.after (arity_at p.sig f) (i + 1))
+structure_run p ends i f lt is =
     let r = ends.runs i (omega arith) lt in
     let q = subst (λ k. Run p.after p.size (width p.sig k) (suc i) (p.after i)) is r in
     subst (λ j. Run p.after p.size (arity_at p.sig f) j (hop p.after (arity_at p.sig f) j)) (sym (add-one i))
-    (subst (λ m. Run p.after p.size (arity_at p.sig f) (suc i) m) (run-hop p.after p.size (arity_at p.sig f) (suc i) (p.after i) q) q)
+    (subst (λ m. Run p.after p.size (arity_at p.sig f) (suc i) m) (run_hop p.after p.size (arity_at p.sig f) (suc i) (p.after i) q) q)

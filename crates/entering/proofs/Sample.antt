@@ -9,11 +9,11 @@ use Rattle.entering.specs.Checks.{Runnable}
 abbrev pub words : List ℕ
 words = 16842752 ∷ 33554433 ∷ 285212672 ∷ []
 
-in-range : (i : ℕ) → i < 3 → ranged 1 (1 ∷ []) (word_at words i) ≡ true
-in-range zero l = refl
-in-range (suc zero) l = refl
-in-range (suc (suc zero)) l = refl
-in-range (suc (suc (suc i))) l = absurd (omega arith)
+in_range_lem : (i : ℕ) → i < 3 → ranged 1 (1 ∷ []) (word_at words i) ≡ true
+in_range_lem zero l = refl
+in_range_lem (suc zero) l = refl
+in_range_lem (suc (suc zero)) l = refl
+in_range_lem (suc (suc (suc i))) l = absurd (omega arith)
 
 no_read : (i y : ℕ) → i < 3 → reads (word_at words i) ≡ Some y → ⊥
 no_read zero y l e = let z : ◌≡◌ {A = ℕ} 0 1 = cc in omega arith
@@ -30,7 +30,7 @@ sample = record {
   kept = record { v1_kept = refl; v2_kept = refl; v3_kept = refl; v4_kept = refl; v5_kept = refl; v6_kept = refl; v7_kept = refl };
   formed = record {
     few = omega arith;
-    ranges = in-range;
+    ranges = in_range_lem;
     earlier = λ i y l e. absurd (no_read i y l e);
   };
 }

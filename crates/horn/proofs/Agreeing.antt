@@ -9,31 +9,31 @@ use Rattle.horn.specs.Answers.{Values, Solution}
 use Rattle.horn.specs.Walk.{deck_tree, SameTree}
 use Rattle.horn.specs.Instances.{Leads, rule_at, rules_weight, program_of, instance_tree}
 use Rattle.horn.specs.Theorems.{Agreement}
-use Rattle.horn.proofs.TermLaws.{evals-evals, each, unnil}
+use Rattle.horn.proofs.TermLaws.{evals_evals, each, unnil}
 use Rattle.horn.proofs.Leading.{part, into}
-use Rattle.horn.proofs.Assembling.{Assembled, back, settled-asked}
+use Rattle.horn.proofs.Assembling.{Assembled, back, settled_asked}
 use Rattle.horn.proofs.Following.{known, knowing}
 
-weight-at : (deck : Deck) (n : ℕ) → weight_of (clause_at deck n) ≡ (rule_at (program_of deck) n).weight
-weight-at [] n = refl
-weight-at (c ∷ deck) zero = refl
-weight-at (c ∷ deck) (suc zero) = refl
-weight-at (c ∷ deck) (suc (suc n)) = weight-at deck (suc n)
+weight_at : (deck : Deck) (n : ℕ) → weight_of (clause_at deck n) ≡ (rule_at (program_of deck) n).weight
+weight_at [] n = refl
+weight_at (c ∷ deck) zero = refl
+weight_at (c ∷ deck) (suc zero) = refl
+weight_at (c ∷ deck) (suc (suc n)) = weight_at deck (suc n)
 
 weights : (deck : Deck) (p : Path) → clauses_weight deck p ≡ rules_weight (program_of deck) p
 weights deck [] = refl
-weights deck (c ∷ p) = ap₂ (λ (m n : ℕ). m + n) (weight-at deck c) (weights deck p)
+weights deck (c ∷ p) = ap₂ (λ (m n : ℕ). m + n) (weight_at deck c) (weights deck p)
 
 module _ (deck : Deck) (q : Query) where
   -- a solution of p's equations that gives the query's variables σ leads to the goals left
   out : (p : Path) (s : Standing) → standing deck q p ≡ Some s → (ρ : Valuation) → Solves ρ s.equations → (σ : Values) → ((v : Variable) → ρ (0, v) ≡ σ v) → Leads (program_of deck) (evals q σ) p (evals s.goals ρ)
   out p s e ρ h σ at =
-      subst (λ x. Leads (program_of deck) x p (evals s.goals ρ)) (evals-evals q (λ v. var (0, v)) ρ ∙ ap (evals q) (each at)) (into deck ρ p (asked q) s e h)
+      subst (λ x. Leads (program_of deck) x p (evals s.goals ρ)) (evals_evals q (λ v. var (0, v)) ρ ∙ ap (evals q) (each at)) (into deck ρ p (asked q) s e h)
 
   module _ (proper : Proper deck) (callable : Callables q) where
     assembled : (p : Path) (σ : Values) (hs : Terms ℕ) → Leads (program_of deck) (evals q σ) p hs → Assembled deck p (asked q) (λ a. σ a.1) hs
     assembled p σ hs l =
-        back deck proper p (asked q) (λ a. σ a.1) hs (settled-asked q callable) tt (subst (λ x. Leads (program_of deck) x p hs) (sym (evals-evals q (λ v. var (0, v)) (λ a. σ a.1))) l)
+        back deck proper p (asked q) (λ a. σ a.1) hs (settled_asked q callable) tt (subst (λ x. Leads (program_of deck) x p hs) (sym (evals_evals q (λ v. var (0, v)) (λ a. σ a.1))) l)
 
     solutions : (p : Path) (σ : Values) → Solution deck q p σ ↔ ((hs : Terms ℕ) × Leads (program_of deck) (evals q σ) p hs)
     solutions p σ = (
@@ -41,8 +41,8 @@ module _ (deck : Deck) (q : Query) where
       λ l. let a = assembled p σ l.0 l.1 in knowing (standing deck q p) _ a.to a.follows (a.by, a.solves, λ v. sym (a.agrees 0 (omega arith) v)),
     )
 
-    same-tree : SameTree (deck_tree deck q) (instance_tree deck q)
-    same-tree = record {
+    same_tree : SameTree (deck_tree deck q) (instance_tree deck q)
+    same_tree = record {
       passable = λ p. (
         λ h. let k = known (standing deck q p) _ h in
             let σ : Values = part k.2.0 0 in
@@ -61,4 +61,4 @@ module _ (deck : Deck) (q : Query) where
     }
 
 pub agreement : Agreement
-agreement deck q proper callable = record { tree = same-tree deck q proper callable; values = solutions deck q proper callable }
+agreement deck q proper callable = record { tree = same_tree deck q proper callable; values = solutions deck q proper callable }

@@ -6,7 +6,7 @@ use Rattle.horn.specs.Clauses.{Variable, Clause, Query, Callable, Callables}
 use Rattle.horn.specs.Paths.{Path}
 use Rattle.horn.specs.Equations.{Deck, Apart, Standing, Valuation, Solves, clause_at, renameds, same_symbol, taking, taken, follow, asked, Proper}
 use Rattle.horn.specs.Instances.{Leads, rule_at, clause_rule, head_name, program_of}
-use Rattle.horn.proofs.TermLaws.{eval-eval, evals-evals, each, uncons, callables-join, meet}
+use Rattle.horn.proofs.TermLaws.{eval_eval, evals_evals, each, uncons, callables_join, meet}
 use Rattle.horn.proofs.Leading.{part, body}
 
 -- the clause of a rule that relates something
@@ -32,38 +32,38 @@ Agree k ρ ρ' = (j : ℕ) → j ≤ k → (v : Variable) → ρ (j, v) ≡ ρ' 
 
 -- goals and equations speak of the entries so far only
 pub record Settled (s : Standing) : Type 0 where
-  pub goals-same : (ρ ρ' : Valuation) → Agree s.entries ρ ρ' → evals s.goals ρ ≡ evals s.goals ρ'
-  pub equations-same : (ρ ρ' : Valuation) → Agree s.entries ρ ρ' → Solves ρ s.equations → Solves ρ' s.equations
+  pub goals_same : (ρ ρ' : Valuation) → Agree s.entries ρ ρ' → evals s.goals ρ ≡ evals s.goals ρ'
+  pub equations_same : (ρ ρ' : Valuation) → Agree s.entries ρ ρ' → Solves ρ s.equations → Solves ρ' s.equations
   pub callable : Callables s.goals
 
-pub settled-asked : (q : Query) → Callables q → Settled (asked q)
-settled-asked q h = record {
-  goals-same = λ ρ ρ' a. evals-evals q (λ v. var (0, v)) ρ ∙ ap (evals q) (each (λ v. a 0 (omega arith) v)) ∙ sym (evals-evals q (λ v. var (0, v)) ρ');
-  equations-same = λ ρ ρ' a k. tt;
+pub settled_asked : (q : Query) → Callables q → Settled (asked q)
+settled_asked q h = record {
+  goals_same = λ ρ ρ' a. evals_evals q (λ v. var (0, v)) ρ ∙ ap (evals q) (each (λ v. a 0 (omega arith) v)) ∙ sym (evals_evals q (λ v. var (0, v)) ρ');
+  equations_same = λ ρ ρ' a k. tt;
   callable = callable;
 }
   where
     callable : Callables (renameds 0 q)
-    callable = subst Callables (join-nil (renameds 0 q)) (callables-join q nil (λ v. var (0, v)) h tt)
+    callable = subst Callables (join_nil (renameds 0 q)) (callables_join q nil (λ v. var (0, v)) h tt)
       where
-        join-nil : (ts : Terms Apart) → join ts nil ≡ ts
-        join-nil nil = refl
-        join-nil (cons t ts) = ap (cons t) (join-nil ts)
+        join_nil : (ts : Terms Apart) → join ts nil ≡ ts
+        join_nil nil = refl
+        join_nil (cons t ts) = ap (cons t) (join_nil ts)
 
 module _ (s : Standing) (settled : Settled s) (g : Term Apart) (gs : Terms Apart) (are : s.goals ≡ cons g gs) (c : Clause) where
-  both-same : (ρ ρ' : Valuation) → Agree s.entries ρ ρ' → (eval g ρ ≡ eval g ρ') × (evals gs ρ ≡ evals gs ρ')
-  both-same ρ ρ' a =
-      let k : cons (eval g ρ) (evals gs ρ) ≡ cons (eval g ρ') (evals gs ρ') = subst (λ x. evals x ρ ≡ evals x ρ') are (settled.goals-same ρ ρ' a) in
+  both_same : (ρ ρ' : Valuation) → Agree s.entries ρ ρ' → (eval g ρ ≡ eval g ρ') × (evals gs ρ ≡ evals gs ρ')
+  both_same ρ ρ' a =
+      let k : cons (eval g ρ) (evals gs ρ) ≡ cons (eval g ρ') (evals gs ρ') = subst (λ x. evals x ρ ≡ evals x ρ') are (settled.goals_same ρ ρ' a) in
       (cc, cc)
 
   settled_on : Callables c.goals → Settled (taking s g gs c)
   settled_on h = record {
-    goals-same = λ ρ ρ' a. body s g gs c ρ ∙ ap₂ join (ap (evals c.goals) (here ρ ρ' a)) (both-same ρ ρ' (less ρ ρ' a)).1 ∙ sym (body s g gs c ρ');
-    equations-same = λ ρ ρ' a k. (
-      sym (both-same ρ ρ' (less ρ ρ' a)).0 ∙ k.0 ∙ eval-eval c.head (λ v. var (s.entries + 1, v)) ρ ∙ ap (eval c.head) (here ρ ρ' a) ∙ sym (eval-eval c.head (λ v. var (s.entries + 1, v)) ρ'),
-      settled.equations-same ρ ρ' (less ρ ρ' a) k.1,
+    goals_same = λ ρ ρ' a. body s g gs c ρ ∙ ap₂ join (ap (evals c.goals) (here ρ ρ' a)) (both_same ρ ρ' (less ρ ρ' a)).1 ∙ sym (body s g gs c ρ');
+    equations_same = λ ρ ρ' a k. (
+      sym (both_same ρ ρ' (less ρ ρ' a)).0 ∙ k.0 ∙ eval_eval c.head (λ v. var (s.entries + 1, v)) ρ ∙ ap (eval c.head) (here ρ ρ' a) ∙ sym (eval_eval c.head (λ v. var (s.entries + 1, v)) ρ'),
+      settled.equations_same ρ ρ' (less ρ ρ' a) k.1,
     );
-    callable = callables-join c.goals gs (λ v. var (s.entries + 1, v)) h (subst Callables are settled.callable).1;
+    callable = callables_join c.goals gs (λ v. var (s.entries + 1, v)) h (subst Callables are settled.callable).1;
   }
     where
       less : (ρ ρ' : Valuation) → Agree (s.entries + 1) ρ ρ' → Agree s.entries ρ ρ'
@@ -73,8 +73,8 @@ module _ (s : Standing) (settled : Settled s) (g : Term Apart) (gs : Terms Apart
       here ρ ρ' a = each (λ v. a (s.entries + 1) (omega arith) v)
 
 -- terms for one entry more
-abbrev and-entry : Valuation → ℕ → (Variable → Term ℕ) → Valuation
-and-entry ρ k τ a = cond (eqb a.0 k) (τ a.1) (ρ a)
+abbrev and_entry : Valuation → ℕ → (Variable → Term ℕ) → Valuation
+and_entry ρ k τ a = cond (eqb a.0 k) (τ a.1) (ρ a)
 
 -- a clause entered: where the path stands then, and the valuation with the terms of that entry
 record Entered (deck : Deck) (s : Standing) (n : ℕ) (ρ : Valuation) (gs : Terms ℕ) : Type 0 where
@@ -96,19 +96,19 @@ module _ (s : Standing) (settled : Settled s) (ρ : Valuation) (solved : Solves 
       let u = uncons s.goals ρ (node (rule_at (program_of deck) n).name ts) us e in
       let g = u.0 in
       let gs = u.1 in
-      let by : Valuation = and-entry ρ k τ in
+      let by : Valuation = and_entry ρ k τ in
       let meets : eval g ρ ≡ eval c.head τ = u.3 ∙ ap (λ x. node x ts) f.name ∙ sym f.relates.1 in
       let symbol : same_symbol g c.head ≡ true = meet g c.head ρ τ (subst Callables u.2 settled.callable).0 f.head meets in
       let new : part by k ≡ τ = each (λ v. cond-true (eqb k k) (τ v) (ρ (k, v)) (eq-eqb k k refl)) in
       let old : Agree s.entries ρ by = λ j le v. sym (cond-false (eqb j k) (τ v) (ρ (j, v)) (ne_eqb j k (λ e. omega arith))) in
-      let same = both-same s settled g gs u.2 c ρ by old in
+      let same = both_same s settled g gs u.2 c ρ by old in
       record {
         to = taking s g gs c;
         by = by;
         takes = ap₂ (taken s) u.2 f.at ∙ cond-true (same_symbol g c.head) (Some (taking s g gs c)) None symbol;
         further = omega arith;
         settled = settled_on s settled g gs u.2 c f.goals;
-        solves = (sym same.0 ∙ meets ∙ ap (eval c.head) (sym new) ∙ sym (eval-eval c.head (λ v. var (k, v)) by), settled.equations-same ρ by old solved);
+        solves = (sym same.0 ∙ meets ∙ ap (eval c.head) (sym new) ∙ sym (eval_eval c.head (λ v. var (k, v)) by), settled.equations_same ρ by old solved);
         left = body s g gs c by ∙ ap₂ join (ap (evals c.goals) new ∙ f.relates.2) (sym same.1 ∙ u.4);
         agrees = old;
       }

@@ -4,23 +4,23 @@ use Rattle.std.proofs.lemmas.Bool.{eqb-true}
 use Rattle.horn.specs.Terms.{Name, Term, var, node, nil, cons, eval}
 use Rattle.horn.specs.Clauses.{named, blank, Written, is_blank, called, written, meant, blanks, apart, aparts}
 
-blank-is : (v : Name) → is_blank v ≡ true → 95 ∷ [] ≡ v
-blank-is [] e = let z : ◌≡◌ {A = ℕ} 0 1 = cc in absurd (omega arith)
-blank-is (b ∷ []) e = ap (λ x. x ∷ []) (sym (eqb-true b 95 e))
-blank-is (b ∷ c ∷ bs) e = let z : ◌≡◌ {A = ℕ} 0 1 = cc in absurd (omega arith)
+blank_is : (v : Name) → is_blank v ≡ true → 95 ∷ [] ≡ v
+blank_is [] e = let z : ◌≡◌ {A = ℕ} 0 1 = cc in absurd (omega arith)
+blank_is (b ∷ []) e = ap (λ x. x ∷ []) (sym (eqb-true b 95 e))
+blank_is (b ∷ c ∷ bs) e = let z : ◌≡◌ {A = ℕ} 0 1 = cc in absurd (omega arith)
 
-called-meant : (n : ℕ) (v : Name) → called (meant n v) ≡ v
-called-meant n v = go (is_blank v) refl
+called_meant : (n : ℕ) (v : Name) → called (meant n v) ≡ v
+called_meant n v = go (is_blank v) refl
   where
     go : (t : Bool) → is_blank v ≡ t → called (cond t (blank n) (named v)) ≡ v
-    go true e = blank-is v e
+    go true e = blank_is v e
     go false e = refl
 
 mutual
   written_apart : (n : ℕ) (t : Term Name) → eval (apart n t) (λ v. var (called v)) ≡ t
-  written_apart n (var v) = ap var (called-meant n v)
-  written_apart n (node f ts) = ap (node f) (written-aparts n ts)
+  written_apart n (var v) = ap var (called_meant n v)
+  written_apart n (node f ts) = ap (node f) (written_aparts n ts)
 
-  pub written-aparts : (n : ℕ) (ts : Written) → written (aparts n ts) ≡ ts
-  written-aparts n nil = refl
-  written-aparts n (cons t ts) = ap₂ cons (written_apart n t) (written-aparts (n + blanks t) ts)
+  pub written_aparts : (n : ℕ) (ts : Written) → written (aparts n ts) ≡ ts
+  written_aparts n nil = refl
+  written_aparts n (cons t ts) = ap₂ cons (written_apart n t) (written_aparts (n + blanks t) ts)

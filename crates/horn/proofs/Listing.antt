@@ -4,13 +4,13 @@ use Rattle.horn.specs.Paths.{Path, Before, In, Ascending, Lists, Count}
 use Rattle.horn.proofs.Order.{irreflexive, asymmetric}
 
 -- two ascending lists with the same paths are one list
-pub same-list : (v w : List Path) → Ascending v → Ascending w → ((q : Path) → In q v → In q w) → ((q : Path) → In q w → In q v) → v ≡ w
-same-list [] [] a b f g = refl
-same-list [] (y ∷ w) a b f g = absurd (g y (inl refl))
-same-list (x ∷ v) [] a b f g = absurd (f x (inl refl))
-same-list (x ∷ v) (y ∷ w) a b f g =
+pub same_list : (v w : List Path) → Ascending v → Ascending w → ((q : Path) → In q v → In q w) → ((q : Path) → In q w → In q v) → v ≡ w
+same_list [] [] a b f g = refl
+same_list [] (y ∷ w) a b f g = absurd (g y (inl refl))
+same_list (x ∷ v) [] a b f g = absurd (f x (inl refl))
+same_list (x ∷ v) (y ∷ w) a b f g =
     let e : x ≡ y = heads (f x (inl refl)) (g y (inl refl)) in
-    let t : v ≡ w = same-list v w a.1 b.1 (λ q h. later-w e q h (f q (inr h))) (λ q h. later-v e q h (g q (inr h))) in
+    let t : v ≡ w = same_list v w a.1 b.1 (λ q h. later_w e q h (f q (inr h))) (λ q h. later_v e q h (g q (inr h))) in
     cc
   where
     heads : In x (y ∷ w) → In y (x ∷ v) → x ≡ y
@@ -18,38 +18,38 @@ same-list (x ∷ v) (y ∷ w) a b f g =
     heads (inr h) (inl e) = sym e
     heads (inr h) (inr k) = absurd (asymmetric x y (a.0 y k) (b.0 x h))
 
-    later-w : x ≡ y → (q : Path) → In q v → In q (y ∷ w) → In q w
-    later-w e q h (inl k) = absurd (irreflexive x (subst (Before x) (k ∙ sym e) (a.0 q h)))
-    later-w e q h (inr k) = k
+    later_w : x ≡ y → (q : Path) → In q v → In q (y ∷ w) → In q w
+    later_w e q h (inl k) = absurd (irreflexive x (subst (Before x) (k ∙ sym e) (a.0 q h)))
+    later_w e q h (inr k) = k
 
-    later-v : x ≡ y → (q : Path) → In q w → In q (x ∷ v) → In q v
-    later-v e q h (inl k) = absurd (irreflexive y (subst (Before y) (k ∙ e) (b.0 q h)))
-    later-v e q h (inr k) = k
+    later_v : x ≡ y → (q : Path) → In q w → In q (x ∷ v) → In q v
+    later_v e q h (inl k) = absurd (irreflexive y (subst (Before y) (k ∙ e) (b.0 q h)))
+    later_v e q h (inr k) = k
 
 pub one_list : (S : Path → Type 0) (v w : List Path) → Lists S v → Lists S w → v ≡ w
 one_list S v w a b =
-    same-list v w a.ascends b.ascends (λ q h. b.full q (a.sound q h)) (λ q h. a.full q (b.sound q h))
+    same_list v w a.ascends b.ascends (λ q h. b.full q (a.sound q h)) (λ q h. a.full q (b.sound q h))
 
-pub one-count : (S : Path → Type 0) (m n : ℕ) → Count S m → Count S n → m ≡ n
-one-count S m n a b = sym a.2 ∙ ap length (one_list S a.0 b.0 a.1 b.1) ∙ b.2
+pub one_count : (S : Path → Type 0) (m n : ℕ) → Count S m → Count S n → m ≡ n
+one_count S m n a b = sym a.2 ∙ ap length (one_list S a.0 b.0 a.1 b.1) ∙ b.2
 
-pub in-front : (q : Path) (v w : List Path) → In q v → In q (v ++ w)
-in-front q [] w h = absurd h
-in-front q (x ∷ v) w (inl e) = inl e
-in-front q (x ∷ v) w (inr h) = inr (in-front q v w h)
+pub in_front : (q : Path) (v w : List Path) → In q v → In q (v ++ w)
+in_front q [] w h = absurd h
+in_front q (x ∷ v) w (inl e) = inl e
+in_front q (x ∷ v) w (inr h) = inr (in_front q v w h)
 
-pub in-back : (q : Path) (v w : List Path) → In q w → In q (v ++ w)
-in-back q [] w h = h
-in-back q (x ∷ v) w h = inr (in-back q v w h)
+pub in_back : (q : Path) (v w : List Path) → In q w → In q (v ++ w)
+in_back q [] w h = h
+in_back q (x ∷ v) w h = inr (in_back q v w h)
 
 pub in_either : (q : Path) (v w : List Path) → In q (v ++ w) → In q v ⊎ In q w
 in_either q [] w h = inr h
 in_either q (x ∷ v) w (inl e) = inl (inl e)
 in_either q (x ∷ v) w (inr h) = ⊎_elim (λ k. inl (inr k)) inr (in_either q v w h)
 
-pub ascending-push : (v : List Path) (p : Path) → Ascending v → ((q : Path) → In q v → Before q p) → Ascending (v ++ (p ∷ []))
-ascending-push [] p a h = (λ q k. absurd k, tt)
-ascending-push (x ∷ v) p a h = (λ q k. go q (in_either q v (p ∷ []) k), ascending-push v p a.1 (λ q k. h q (inr k)))
+pub ascending_push : (v : List Path) (p : Path) → Ascending v → ((q : Path) → In q v → Before q p) → Ascending (v ++ (p ∷ []))
+ascending_push [] p a h = (λ q k. absurd k, tt)
+ascending_push (x ∷ v) p a h = (λ q k. go q (in_either q v (p ∷ []) k), ascending_push v p a.1 (λ q k. h q (inr k)))
   where
     go : (q : Path) → In q v ⊎ In q (p ∷ []) → Before x q
     go q (inl k) = a.0 q k
@@ -68,7 +68,7 @@ module _ (S S' : Path → Type 0) where
   -- one path more, behind all the others
   pub more : (v : List Path) (p : Path) → Lists S v → ((q : Path) → S q → S' q) → ((q : Path) → S' q → S q ⊎ (q ≡ p)) → S' p → ((q : Path) → S q → Before q p) → Lists S' (v ++ (p ∷ []))
   more v p l f g s b = record {
-    ascends = ascending-push v p l.ascends (λ q h. b q (l.sound q h));
+    ascends = ascending_push v p l.ascends (λ q h. b q (l.sound q h));
     sound = λ q h. from q (in_either q v (p ∷ []) h);
     full = λ q h. to q (g q h);
   }
@@ -79,14 +79,14 @@ module _ (S S' : Path → Type 0) where
       from q (inr (inr h)) = absurd h
 
       to : (q : Path) → S q ⊎ (q ≡ p) → In q (v ++ (p ∷ []))
-      to q (inl h) = in-front q v (p ∷ []) (l.full q h)
-      to q (inr e) = in-back q v (p ∷ []) (inl e)
+      to q (inl h) = in_front q v (p ∷ []) (l.full q h)
+      to q (inr e) = in_back q v (p ∷ []) (inl e)
 
-  pub count-stays : (n : ℕ) → Count S n → ((q : Path) → S q → S' q) → ((q : Path) → S' q → S q) → Count S' n
-  count-stays n c f g = (c.0, stays c.0 c.1 f g, c.2)
+  pub count_stays : (n : ℕ) → Count S n → ((q : Path) → S q → S' q) → ((q : Path) → S' q → S q) → Count S' n
+  count_stays n c f g = (c.0, stays c.0 c.1 f g, c.2)
 
-  pub count-more : (n : ℕ) (p : Path) → Count S n → ((q : Path) → S q → S' q) → ((q : Path) → S' q → S q ⊎ (q ≡ p)) → S' p → ((q : Path) → S q → Before q p) → Count S' (n + 1)
-  count-more n p c f g s b = (c.0 ++ (p ∷ []), more c.0 p c.1 f g s b, length-append c.0 (p ∷ []) ∙ ap (λ k. k + 1) c.2)
+  pub count_more : (n : ℕ) (p : Path) → Count S n → ((q : Path) → S q → S' q) → ((q : Path) → S' q → S q ⊎ (q ≡ p)) → S' p → ((q : Path) → S q → Before q p) → Count S' (n + 1)
+  count_more n p c f g s b = (c.0 ++ (p ∷ []), more c.0 p c.1 f g s b, length-append c.0 (p ∷ []) ∙ ap (λ k. k + 1) c.2)
 
 -- a list of some of the paths with S is at most as long as the list of all
 pub some_of : (v w : List Path) → Ascending v → Ascending w → ((q : Path) → In q v → In q w) → length v ≤ length w

@@ -42,25 +42,25 @@ total (x ∷ p) (y ∷ q) = go (order x y) (total p q)
 pub asymmetric : (p q : Path) → Before p q → Before q p → ⊥
 asymmetric p q h k = irreflexive p (transitive p q p h k)
 
-pub total-order : TotalOrder
-total-order = record { irreflexive = irreflexive; asymmetric = asymmetric; transitive = transitive; total = total }
+pub total_order : TotalOrder
+total_order = record { irreflexive = irreflexive; asymmetric = asymmetric; transitive = transitive; total = total }
 
 -- one behind the other
-pub not-both : (p q : Path) → Before p q → UpTo q p → ⊥
-not-both p q h (inl e) = irreflexive p (subst (Before p) e h)
-not-both p q h (inr k) = asymmetric p q h k
+pub not_both : (p q : Path) → Before p q → UpTo q p → ⊥
+not_both p q h (inl e) = irreflexive p (subst (Before p) e h)
+not_both p q h (inr k) = asymmetric p q h k
 
 pub upto_before : (p q r : Path) → UpTo p q → Before q r → Before p r
 upto_before p q r (inl e) k = subst (λ x. Before x r) (sym e) k
 upto_before p q r (inr h) k = transitive p q r h k
 
-pub before-upto : (p q r : Path) → Before p q → UpTo q r → Before p r
-before-upto p q r h (inl e) = subst (Before p) e h
-before-upto p q r h (inr k) = transitive p q r h k
+pub before_upto : (p q r : Path) → Before p q → UpTo q r → Before p r
+before_upto p q r h (inl e) = subst (Before p) e h
+before_upto p q r h (inr k) = transitive p q r h k
 
-pub upto-trans : (p q r : Path) → UpTo p q → UpTo q r → UpTo p r
-upto-trans p q r (inl e) k = subst (λ x. UpTo x r) (sym e) k
-upto-trans p q r (inr h) k = inr (before-upto p q r h k)
+pub upto_trans : (p q r : Path) → UpTo p q → UpTo q r → UpTo p r
+upto_trans p q r (inl e) k = subst (λ x. UpTo x r) (sym e) k
+upto_trans p q r (inr h) k = inr (before_upto p q r h k)
 
 -- not before is at or after
 pub otherwise : (p q : Path) → (Before p q → ⊥) → UpTo q p

@@ -2,7 +2,7 @@
 use Rattle.std.proofs.Common.{ℕ, ◌<◌, ◌≤◌, [], sym, ◌∙◌, subst}
 use Rattle.horn.specs.Paths.{Path}
 use Rattle.horn.specs.Walk.{Tree, Grown, Breaks, past_fuel, too_long, too_heavy, Over, FirstOver, Walked, Hit, Answered, Exhausted, Stopped, weight_limit, SameTree}
-use Rattle.horn.proofs.Listing.{count-stays}
+use Rattle.horn.proofs.Listing.{count_stays}
 
 pub turned : {t u : Tree} → SameTree t u → SameTree u t
 turned h = record {
@@ -18,8 +18,8 @@ chained h k = record {
   weight = λ p. h.weight p ∙ k.weight p;
 }
 
-pub grown-same : {t u : Tree} → SameTree t u → Grown t → Grown u
-grown-same h g = record {
+pub grown_same : {t u : Tree} → SameTree t u → Grown t → Grown u
+grown_same h g = record {
   root = (h.passable []).0 g.root;
   goals = λ w. g.goals ((h.successful []).1 w);
   light = subst (λ n. n ≤ weight_limit) (h.weight []) g.light;
@@ -29,43 +29,43 @@ grown-same h g = record {
 
 -- one way
 module _ {t u : Tree} (h : SameTree t u) (fuel : ℕ) where
-  breaks-to : {p : Path} {m : ℕ} → Breaks t fuel p m → Breaks u fuel p m
-  breaks-to (past_fuel w) = past_fuel (w.0, w.1, λ q i. let k = w.2 q i in (((h.passable q).0 k.0.0, k.0.1), k.1), w.3)
-  breaks-to (too_long w) = too_long w
-  breaks-to {p} (too_heavy w) = too_heavy (subst (λ n. weight_limit < n) (h.weight p) w)
+  breaks_to : {p : Path} {m : ℕ} → Breaks t fuel p m → Breaks u fuel p m
+  breaks_to (past_fuel w) = past_fuel (w.0, w.1, λ q i. let k = w.2 q i in (((h.passable q).0 k.0.0, k.0.1), k.1), w.3)
+  breaks_to (too_long w) = too_long w
+  breaks_to {p} (too_heavy w) = too_heavy (subst (λ n. weight_limit < n) (h.weight p) w)
 
-  over-to : {p : Path} {m : ℕ} → Over t fuel p m → Over u fuel p m
-  over-to {p} o = ((h.passable p).0 o.0, breaks-to o.1)
+  over_to : {p : Path} {m : ℕ} → Over t fuel p m → Over u fuel p m
+  over_to {p} o = ((h.passable p).0 o.0, breaks_to o.1)
 
 -- and both
 module _ {t u : Tree} (h : SameTree t u) (fuel : ℕ) where
   walked_to : {p : Path} → Walked t fuel p → Walked u fuel p
-  walked_to {p} w = record { passes = (h.passable p).0 w.passes; ahead = λ q m o. w.ahead q m (over-to (turned h) fuel o) }
+  walked_to {p} w = record { passes = (h.passable p).0 w.passes; ahead = λ q m o. w.ahead q m (over_to (turned h) fuel o) }
 
-  hit-to : {p : Path} → Hit t fuel p → Hit u fuel p
-  hit-to {p} w = (walked_to w.0, (h.successful p).0 w.1)
+  hit_to : {p : Path} → Hit t fuel p → Hit u fuel p
+  hit_to {p} w = (walked_to w.0, (h.successful p).0 w.1)
 
   first_to : {p : Path} {m : ℕ} → FirstOver t fuel p m → FirstOver u fuel p m
-  first_to f = record { over = over-to h fuel f.over; lowest = λ k l o. f.lowest k l (over-to (turned h) fuel o); first = λ q k o. f.first q k (over-to (turned h) fuel o) }
+  first_to f = record { over = over_to h fuel f.over; lowest = λ k l o. f.lowest k l (over_to (turned h) fuel o); first = λ q k o. f.first q k (over_to (turned h) fuel o) }
 
 module _ {t u : Tree} (h : SameTree t u) (fuel : ℕ) where
-  pub answered-same : {p : Path} {n s : ℕ} → Answered t fuel p n s → Answered u fuel p n s
-  answered-same {p} {n} {s} a = record {
-    nth = (hit-to h fuel a.nth.0, count-stays _ _ n a.nth.1 (λ q k. (hit-to h fuel k.0, k.1)) (λ q k. (hit-to (turned h) fuel k.0, k.1)));
-    spent = count-stays _ _ s a.spent (λ q k. ((walked_to h fuel k.0.0, k.0.1), k.1)) (λ q k. ((walked_to (turned h) fuel k.0.0, k.0.1), k.1));
+  pub answered_same : {p : Path} {n s : ℕ} → Answered t fuel p n s → Answered u fuel p n s
+  answered_same {p} {n} {s} a = record {
+    nth = (hit_to h fuel a.nth.0, count_stays _ _ n a.nth.1 (λ q k. (hit_to h fuel k.0, k.1)) (λ q k. (hit_to (turned h) fuel k.0, k.1)));
+    spent = count_stays _ _ s a.spent (λ q k. ((walked_to h fuel k.0.0, k.0.1), k.1)) (λ q k. ((walked_to (turned h) fuel k.0.0, k.0.1), k.1));
   }
 
-  pub exhausted-same : {n s : ℕ} → Exhausted t fuel n s → Exhausted u fuel n s
-  exhausted-same {n} {s} a = record {
-    none = λ q m o. a.none q m (over-to (turned h) fuel o);
-    hits = count-stays _ _ n a.hits (λ q k. hit-to h fuel k) (λ q k. hit-to (turned h) fuel k);
-    spent = count-stays _ _ s a.spent (λ q k. (walked_to h fuel k.0, k.1)) (λ q k. (walked_to (turned h) fuel k.0, k.1));
+  pub exhausted_same : {n s : ℕ} → Exhausted t fuel n s → Exhausted u fuel n s
+  exhausted_same {n} {s} a = record {
+    none = λ q m o. a.none q m (over_to (turned h) fuel o);
+    hits = count_stays _ _ n a.hits (λ q k. hit_to h fuel k) (λ q k. hit_to (turned h) fuel k);
+    spent = count_stays _ _ s a.spent (λ q k. (walked_to h fuel k.0, k.1)) (λ q k. (walked_to (turned h) fuel k.0, k.1));
   }
 
-  pub stopped-same : {m n s : ℕ} → Stopped t fuel m n s → Stopped u fuel m n s
-  stopped-same {m} {n} {s} a = record {
+  pub stopped_same : {m n s : ℕ} → Stopped t fuel m n s → Stopped u fuel m n s
+  stopped_same {m} {n} {s} a = record {
     at = a.at;
     first = first_to h fuel a.first;
-    hits = count-stays _ _ n a.hits (λ q k. hit-to h fuel k) (λ q k. hit-to (turned h) fuel k);
-    spent = count-stays _ _ s a.spent (λ q k. (walked_to h fuel k.0, k.1)) (λ q k. (walked_to (turned h) fuel k.0, k.1));
+    hits = count_stays _ _ n a.hits (λ q k. hit_to h fuel k) (λ q k. hit_to (turned h) fuel k);
+    spent = count_stays _ _ s a.spent (λ q k. (walked_to h fuel k.0, k.1)) (λ q k. (walked_to (turned h) fuel k.0, k.1));
   }

@@ -3,22 +3,22 @@ use Rattle.std.proofs.Common.{◌≡◌, ℕ, ◌+◌, ◌<◌, ◌≤◌, ◌�
 use native.Mathlib.Decide.{dec_lt}
 use Rattle.horn.specs.Paths.{Path, Before, UpTo, In, Count}
 use Rattle.horn.specs.Walk.{Tree, Grown, Step, NonEmpty, PastFuel, Breaks, past_fuel, too_long, too_heavy, length_limit, weight_limit, fuel_halt, length_halt, weight_halt}
-use Rattle.horn.proofs.Order.{irreflexive, asymmetric, upto_before, before-upto, otherwise, Side, left, under, right, side, common, joined, order}
+use Rattle.horn.proofs.Order.{irreflexive, asymmetric, upto_before, before_upto, otherwise, Side, left, under, right, side, common, joined, order}
 use Rattle.horn.proofs.Listing.{some_of}
 use Rattle.horn.specs.Search.{Stands, child}
-use Rattle.horn.proofs.Moves.{Gap, Only, steps-more}
+use Rattle.horn.proofs.Moves.{Gap, Only, steps_more}
 
-pub nothing-more : (p : Path) → p ++ [] ≡ p
-nothing-more [] = refl
-nothing-more (x ∷ p) = ap (λ q. x ∷ q) (nothing-more p)
+pub nothing_more : (p : Path) → p ++ [] ≡ p
+nothing_more [] = refl
+nothing_more (x ∷ p) = ap (λ q. x ∷ q) (nothing_more p)
 
 pub extends : (p : Path) (x : ℕ) (r : Path) → Before p (p ++ (x ∷ r))
 extends [] x r = tt
 extends (y ∷ p) x r = inr (refl, extends p x r)
 
-pub filled-child : (p : Path) (c : ℕ) → NonEmpty (p ++ (c ∷ []))
-filled-child [] c = tt
-filled-child (x ∷ p) c = tt
+pub filled_child : (p : Path) (c : ℕ) → NonEmpty (p ++ (c ∷ []))
+filled_child [] c = tt
+filled_child (x ∷ p) c = tt
 
 -- by the number that follows p
 branch : (p : Path) (d : ℕ) (r : Path) (c : ℕ) → Before (p ++ (d ∷ r)) (child p c) → d < c
@@ -57,17 +57,17 @@ module _ (t : Tree) (grown : Grown t) where
 
   -- clause c is passable
   pub enter : (p : Path) (c : ℕ) → t.passable (child p c) → Only t (child p c) (child p c) (child (child p c) 1)
-  enter p c pass = record { onward = inl refl; ends = extends (child p c) 1 []; passes = pass; filled = filled-child p c; one = λ q w l. go q w l (side (child p c) q) }
+  enter p c pass = record { onward = inl refl; ends = extends (child p c) 1 []; passes = pass; filled = filled_child p c; one = λ q w l. go q w l (side (child p c) q) }
     where
       inside : (r : Path) → t.passable (child p c ++ r) → Before (child p c ++ r) (child (child p c) 1) → child p c ++ r ≡ child p c
-      inside [] w l = nothing-more (child p c)
+      inside [] w l = nothing_more (child p c)
       inside (d ∷ r) w l =
           let h : d < 1 = branch (child p c) d r 1 l in
           let e : d ≡ 0 = omega arith in
           absurd (grown.counted (child p c) (subst (λ x. t.passable (child (child p c) x)) e (through (child p c) d r w)))
 
       go : (q : Path) → t.passable q → Before q (child (child p c) 1) → Side (child p c) q → Before q (child p c) ⊎ (q ≡ child p c)
-      go q w l (left k) = inl (subst (Before q) (nothing-more (child p c)) (k []))
+      go q w l (left k) = inl (subst (Before q) (nothing_more (child p c)) (k []))
       go q w l (under r e) = inr (e ∙ inside r (subst t.passable e w) (subst (λ x. Before x (child (child p c) 1)) e l))
       go q w l (right k) = absurd (asymmetric q (child (child p c) 1) l (k (1 ∷ [])))
 
@@ -88,7 +88,7 @@ module _ (t : Tree) (grown : Grown t) where
 
       -- behind all under p ++ c is at p ++ (c + 1) or behind it
       behind : (q : Path) → ((r : Path) → Before (child p c ++ r) q) → Before q (child p (c + 1)) → Side p q → ⊥
-      behind q k l (left h) = asymmetric q (child p c ++ []) (subst (Before q) (sym (nothing-more (child p c))) (h (c ∷ []))) (k [])
+      behind q k l (left h) = asymmetric q (child p c ++ []) (subst (Before q) (sym (nothing_more (child p c))) (h (c ∷ []))) (k [])
       behind q k l (right h) = asymmetric q (child p (c + 1)) l (h ((c + 1) ∷ []))
       behind q k l (under s e) = deep s (λ r. subst (λ x. Before x (p ++ s)) (append_assoc p (c ∷ []) r) (subst (Before (child p c ++ r)) e (k r))) (subst (λ x. Before x (child p (c + 1))) e l)
         where
@@ -117,72 +117,72 @@ module _ (t : Tree) (grown : Grown t) where
   -- before the first move
   pub start : (fuel : ℕ) → Stands t fuel (1 ∷ []) 0 0
   start fuel = record {
-    hits = ([], record { ascends = tt; sound = λ q h. absurd h; full = λ q k. absurd (grown.goals (subst t.successful (root-only q k.0.0 k.1) k.0.1)) }, refl);
-    steps = ([], record { ascends = tt; sound = λ q h. absurd h; full = λ q k. absurd (subst NonEmpty (root-only q k.0.0 k.1) k.0.1) }, refl);
-    clear = λ q m o. otherwise q (1 ∷ []) (λ l. root-fine m (subst (λ x. Breaks t fuel x m) (root-only q o.0 l) o.1));
+    hits = ([], record { ascends = tt; sound = λ q h. absurd h; full = λ q k. absurd (grown.goals (subst t.successful (root_only q k.0.0 k.1) k.0.1)) }, refl);
+    steps = ([], record { ascends = tt; sound = λ q h. absurd h; full = λ q k. absurd (subst NonEmpty (root_only q k.0.0 k.1) k.0.1) }, refl);
+    clear = λ q m o. otherwise q (1 ∷ []) (λ l. root_fine m (subst (λ x. Breaks t fuel x m) (root_only q o.0 l) o.1));
   }
     where
-      root-only : (q : Path) → t.passable q → Before q (1 ∷ []) → q ≡ []
-      root-only [] w l = refl
-      root-only (d ∷ r) w l =
+      root_only : (q : Path) → t.passable q → Before q (1 ∷ []) → q ≡ []
+      root_only [] w l = refl
+      root_only (d ∷ r) w l =
           let h : d < 1 = branch [] d r 1 l in
           let e : d ≡ 0 = omega arith in
           absurd (grown.counted [] (subst (λ x. t.passable (x ∷ [])) e (through [] d r w)))
 
-      none-at : (q : Path) → NonEmpty q → UpTo q [] → ⊥
-      none-at q f (inl e) = subst NonEmpty e f
-      none-at q f (inr l) = l
+      none_at : (q : Path) → NonEmpty q → UpTo q [] → ⊥
+      none_at q f (inl e) = subst NonEmpty e f
+      none_at q f (inr l) = l
 
-      none-up : (w : List Path) → ((q : Path) → In q w → Step t q × UpTo q []) → fuel < length w → ⊥
-      none-up [] f h = omega arith
-      none-up (q ∷ w) f h = let k = f q (inl refl) in none-at q k.0.1 k.1
+      none_up : (w : List Path) → ((q : Path) → In q w → Step t q × UpTo q []) → fuel < length w → ⊥
+      none_up [] f h = omega arith
+      none_up (q ∷ w) f h = let k = f q (inl refl) in none_at q k.0.1 k.1
 
-      root-fine : (m : ℕ) → Breaks t fuel [] m → ⊥
-      root-fine m (past_fuel h) = none-up h.0 h.2 h.3
-      root-fine m (too_long h) = omega arith
-      root-fine m (too_heavy h) = omega (arith, grown.light)
+      root_fine : (m : ℕ) → Breaks t fuel [] m → ⊥
+      root_fine m (past_fuel h) = none_up h.0 h.2 h.3
+      root_fine m (too_long h) = omega arith
+      root_fine m (too_heavy h) = omega (arith, grown.light)
 
   -- the limits at the next passable path
   module _ (fuel : ℕ) {b p b' : Path} {n s : ℕ} (g : Only t b p b') (h : Stands t fuel b n s) where
-    pub fuel-out : fuel < s + 1 → PastFuel t fuel p
-    fuel-out lt =
-        let m : Count (λ q. Step t q × Before q b') (s + 1) = steps-more t fuel g h in
+    pub fuel_out : fuel < s + 1 → PastFuel t fuel p
+    fuel_out lt =
+        let m : Count (λ q. Step t q × Before q b') (s + 1) = steps_more t fuel g h in
         (m.0, m.1.ascends, λ q k. ((m.1.sound q k).0, up q (m.1.sound q k).0.0 (m.1.sound q k).1), omega (arith, m.2))
       where
         up : (q : Path) → t.passable q → Before q b' → UpTo q p
-        up q w k = ⊎_elim (λ l. inr (before-upto q b p l g.onward)) (λ e. inl e) (g.one q w k)
+        up q w k = ⊎_elim (λ l. inr (before_upto q b p l g.onward)) (λ e. inl e) (g.one q w k)
 
-    pub fuel-left : s + 1 ≤ fuel → PastFuel t fuel p → ⊥
-    fuel-left le f =
-        let m : Count (λ q. Step t q × Before q b') (s + 1) = steps-more t fuel g h in
+    pub fuel_left : s + 1 ≤ fuel → PastFuel t fuel p → ⊥
+    fuel_left le f =
+        let m : Count (λ q. Step t q × Before q b') (s + 1) = steps_more t fuel g h in
         let k : length f.0 ≤ length m.0 = some_of f.0 m.0 f.1 m.1.ascends (λ q i. m.1.full q ((f.2 q i).0, upto_before q p b' (f.2 q i).1 g.ends)) in
         omega (arith, m.2, f.3)
 
     pub within : s + 1 ≤ fuel → length p ≤ length_limit → t.weight p ≤ weight_limit → (m : ℕ) → Breaks t fuel p m → ⊥
-    within a b c m (past_fuel f) = fuel-left a f
+    within a b c m (past_fuel f) = fuel_left a f
     within a b c m (too_long f) = omega arith
     within a b c m (too_heavy f) = omega arith
 
     pub halt_fuel : fuel < s + 1 → Breaks t fuel p fuel_halt × ((k : ℕ) → k < fuel_halt → Breaks t fuel p k → ⊥)
-    halt_fuel lt = (past_fuel (fuel-out lt), low)
+    halt_fuel lt = (past_fuel (fuel_out lt), low)
       where
         low : (k : ℕ) → k < fuel_halt → Breaks t fuel p k → ⊥
         low k l (past_fuel f) = omega arith
         low k l (too_long f) = omega arith
         low k l (too_heavy f) = omega arith
 
-    pub halt-long : s + 1 ≤ fuel → length_limit < length p → Breaks t fuel p length_halt × ((k : ℕ) → k < length_halt → Breaks t fuel p k → ⊥)
-    halt-long a lt = (too_long lt, low)
+    pub halt_long : s + 1 ≤ fuel → length_limit < length p → Breaks t fuel p length_halt × ((k : ℕ) → k < length_halt → Breaks t fuel p k → ⊥)
+    halt_long a lt = (too_long lt, low)
       where
         low : (k : ℕ) → k < length_halt → Breaks t fuel p k → ⊥
-        low k l (past_fuel f) = fuel-left a f
+        low k l (past_fuel f) = fuel_left a f
         low k l (too_long f) = omega arith
         low k l (too_heavy f) = omega arith
 
-    pub halt-heavy : s + 1 ≤ fuel → length p ≤ length_limit → weight_limit < t.weight p → Breaks t fuel p weight_halt × ((k : ℕ) → k < weight_halt → Breaks t fuel p k → ⊥)
-    halt-heavy a b lt = (too_heavy lt, low)
+    pub halt_heavy : s + 1 ≤ fuel → length p ≤ length_limit → weight_limit < t.weight p → Breaks t fuel p weight_halt × ((k : ℕ) → k < weight_halt → Breaks t fuel p k → ⊥)
+    halt_heavy a b lt = (too_heavy lt, low)
       where
         low : (k : ℕ) → k < weight_halt → Breaks t fuel p k → ⊥
-        low k l (past_fuel f) = fuel-left a f
+        low k l (past_fuel f) = fuel_left a f
         low k l (too_long f) = omega arith
         low k l (too_heavy f) = omega arith

@@ -7,12 +7,12 @@ use Rattle.horn.specs.Answers.{AnswerLine}
 use Rattle.horn.specs.Notation.{tally_line, halt_line}
 use Rattle.horn.specs.Transcript.{Prints, answer, end, halt}
 use Rattle.horn.specs.Theorems.{OneReply, OneTranscript}
-use Rattle.horn.proofs.Unique.{one-reply}
+use Rattle.horn.proofs.Unique.{one_reply}
 use Rattle.horn.proofs.Lines.{one_line}
 
 module _ (deck : Deck) (q : Query) (fuel : ℕ) where
   one : OneReply (deck_tree deck q) fuel
-  one = one-reply (deck_tree deck q) fuel
+  one = one_reply (deck_tree deck q) fuel
 
   pub decided : (n : ℕ) (ls ls' : List (List ℕ)) → Prints deck q fuel n ls → Prints deck q fuel n ls' → ls ≡ ls'
   decided n ls ls' (answer {line = y} p s a l k) (answer {lines = xs} p' s' a' l' k') =
@@ -30,5 +30,5 @@ module _ (deck : Deck) (q : Query) (fuel : ℕ) where
       let e = one.one_halt m n s m' n s' h h' in
       ap₂ (λ (x y : ℕ). halt_line x n y ∷ []) e.0 e.2
 
-pub one-transcript : OneTranscript
-one-transcript = decided
+pub one_transcript : OneTranscript
+one_transcript = decided

@@ -22,11 +22,11 @@ read_back [] h = refl
 read_back (w ∷ ws) h = ap₂ ◌∷◌ (whole w h.0) (read_back ws h.1)
 
 -- one word more
-pub bytes-more : (out ws : List ℕ) (i : ℕ) → i < length ws → (out ++ bytes_of (get_or ws i 0 ∷ [])) ++ bytes_of (drop (i + 1) ws) ≡ out ++ bytes_of (drop i ws)
-bytes-more out ws i h = append_assoc out _ _ ∙ ap (λ l. out ++ l) (sym (at_drop_more bytes_of ws i 0 h))
+pub bytes_more : (out ws : List ℕ) (i : ℕ) → i < length ws → (out ++ bytes_of (get_or ws i 0 ∷ [])) ++ bytes_of (drop (i + 1) ws) ≡ out ++ bytes_of (drop i ws)
+bytes_more out ws i h = append_assoc out _ _ ∙ ap (λ l. out ++ l) (sym (at_drop_more bytes_of ws i 0 h))
 
-pub bytes-done : (out ws : List ℕ) (i : ℕ) → length ws ≤ i → out ++ bytes_of (drop i ws) ≡ out
-bytes-done out ws i h = ap (λ l. out ++ l) (at_drop_all bytes_of ws i h) ∙ append-nil out
+pub bytes_done : (out ws : List ℕ) (i : ℕ) → length ws ≤ i → out ++ bytes_of (drop i ws) ≡ out
+bytes_done out ws i h = ap (λ l. out ++ l) (at_drop_all bytes_of ws i h) ∙ append-nil out
 
 pub words_more : (out left : List ℕ) → 4 ≤ length left → (out ++ word_of (get_or left 0 0) (get_or left 1 0) (get_or left 2 0) (get_or left 3 0) ∷ []) ++ words_of (take (length left - 4) (drop 4 left)) ≡ out ++ words_of left
 words_more out [] h = absurd (omega arith)

@@ -12,13 +12,13 @@ use Rattle.image.specs.Symbols.{size_of, arity_of, name_words, proper}
 abbrev pub zeros : List ℕ → Bool
 zeros = every (λ b. eqb b 0)
 
-pub length-bytes : (ws : List ℕ) → length (bytes_of ws) ≡ 4 * length ws
-length-bytes [] = refl
-length-bytes (w ∷ ws) = let ih = length-bytes ws in omega arith
+pub length_bytes : (ws : List ℕ) → length (bytes_of ws) ≡ 4 * length ws
+length_bytes [] = refl
+length_bytes (w ∷ ws) = let ih = length_bytes ws in omega arith
 
-bytes-append : (xs ys : List ℕ) → bytes_of (xs ++ ys) ≡ bytes_of xs ++ bytes_of ys
-bytes-append [] ys = refl
-bytes-append (x ∷ xs) ys = ap (λ l. (x % 256) ∷ (x / 256 % 256) ∷ (x / 65536 % 256) ∷ (x / 16777216 % 256) ∷ l) (bytes-append xs ys)
+bytes_append : (xs ys : List ℕ) → bytes_of (xs ++ ys) ≡ bytes_of xs ++ bytes_of ys
+bytes_append [] ys = refl
+bytes_append (x ∷ xs) ys = ap (λ l. (x % 256) ∷ (x / 256 % 256) ∷ (x / 65536 % 256) ∷ (x / 16777216 % 256) ∷ l) (bytes_append xs ys)
 
 -- four bytes written over four zeros
 over : (xs zs : List ℕ) (n a b c d : ℕ) → length xs ≡ n
@@ -45,9 +45,9 @@ fill_more ws out i a b c d h short is pa pb pc pd =
     let xs = bytes_of (take i ws) in
     let k = 32 - 4 * (i + 1) in
     let four : 32 - 4 * i ≡ suc (suc (suc (suc k))) = omega arith in
-    let at : length xs ≡ 4 * i = length-bytes (take i ws) ∙ ap (λ n. 4 * n) (length-take-le i ws (omega arith)) in
+    let at : length xs ≡ 4 * i = length_bytes (take i ws) ∙ ap (λ n. 4 * n) (length-take-le i ws (omega arith)) in
     let more : bytes_of (take (i + 1) ws) ≡ xs ++ (get_or ws i 0 % 256) ∷ (get_or ws i 0 / 256 % 256) ∷ (get_or ws i 0 / 65536 % 256) ∷ (get_or ws i 0 / 16777216 % 256) ∷ [] =
-    ap bytes_of (take_more ws i 0 h) ∙ bytes-append (take i ws) (get_or ws i 0 ∷ []) in
+    ap bytes_of (take_more ws i 0 h) ∙ bytes_append (take i ws) (get_or ws i 0 ∷ []) in
     ap (λ (l : List ℕ). set (set (set (set l (4 * i) a) (4 * i + 1) b) (4 * i + 2) c) (4 * i + 3) d) (is ∙ ap (λ n. xs ++ replicate n 0) four)
     ∙ over xs (replicate k 0) (4 * i) a b c d at
     ∙ ap₂ (λ (x y : ℕ). xs ++ x ∷ y ∷ c ∷ d ∷ replicate k 0) pa pb
@@ -58,25 +58,25 @@ fill_more ws out i a b c d h short is pa pb pc pd =
 pub fill_end : (ws : List ℕ) (i : ℕ) → i ≡ length ws → filled i ws ≡ bytes_of ws ++ replicate (32 - 4 * length ws) 0
 fill_end ws i e = ap (λ n. filled n ws) e ∙ ap (λ l. bytes_of l ++ replicate (32 - 4 * length ws) 0) (take_all (length ws) ws (omega arith))
 
-zeros-append : (xs : List ℕ) (k : ℕ) → zeros (xs ++ replicate k 0) ≡ zeros xs
-zeros-append [] zero = refl
-zeros-append [] (suc k) = zeros-append [] k
-zeros-append (x ∷ xs) k = ap (λ t. eqb x 0 && t) (zeros-append xs k)
+zeros_append : (xs : List ℕ) (k : ℕ) → zeros (xs ++ replicate k 0) ≡ zeros xs
+zeros_append [] zero = refl
+zeros_append [] (suc k) = zeros_append [] k
+zeros_append (x ∷ xs) k = ap (λ t. eqb x 0 && t) (zeros_append xs k)
 
 -- the name and the zeros in the filled bytes
 module _ (ws all : List ℕ) (n : ℕ) (short : length ws ≤ 8) (h : n ≤ 4 * length ws) (is : all ≡ bytes_of ws ++ replicate (32 - 4 * length ws) 0) where
-  pub name-part : take (n - 0) all ≡ take n (bytes_of ws)
-  name-part =
+  pub name_part : take (n - 0) all ≡ take n (bytes_of ws)
+  name_part =
       let e : n - 0 ≡ n = omega arith in
-      ap₂ (λ (m : ℕ) (l : List ℕ). take m l) e is ∙ take-append-le n (bytes_of ws) (replicate (32 - 4 * length ws) 0) (omega (arith, length-bytes ws))
+      ap₂ (λ (m : ℕ) (l : List ℕ). take m l) e is ∙ take-append-le n (bytes_of ws) (replicate (32 - 4 * length ws) 0) (omega (arith, length_bytes ws))
 
-  pub zero-part : zeros (take (32 - n) (drop n all)) ≡ zeros (drop n (bytes_of ws))
-  zero-part =
-      let long : length all ≡ 32 = ap length is ∙ length-append (bytes_of ws) (replicate (32 - 4 * length ws) 0) ∙ ap₂ ◌+◌ (length-bytes ws) (length-replicate {A = ℕ} (32 - 4 * length ws) 0) ∙ omega arith in
+  pub zero_part : zeros (take (32 - n) (drop n all)) ≡ zeros (drop n (bytes_of ws))
+  zero_part =
+      let long : length all ≡ 32 = ap length is ∙ length-append (bytes_of ws) (replicate (32 - 4 * length ws) 0) ∙ ap₂ ◌+◌ (length_bytes ws) (length-replicate {A = ℕ} (32 - 4 * length ws) 0) ∙ omega arith in
       ap (λ m. zeros (take (m - n) (drop n all))) (sym long)
       ∙ ap zeros (take_rest all n) ∙ ap (λ l. zeros (drop n l)) is
-      ∙ ap zeros (drop-append-le n (bytes_of ws) (replicate (32 - 4 * length ws) 0) (omega (arith, length-bytes ws)))
-      ∙ zeros-append (drop n (bytes_of ws)) (32 - 4 * length ws)
+      ∙ ap zeros (drop-append-le n (bytes_of ws) (replicate (32 - 4 * length ws) 0) (omega (arith, length_bytes ws)))
+      ∙ zeros_append (drop n (bytes_of ws)) (32 - 4 * length ws)
 
 -- names that are too long
 pub too_long : (f : List ℕ) → name_limit < length f → is_name f ≡ false
@@ -88,11 +88,11 @@ too_long (b ∷ bs) h =
 abbrev pub rest : List ℕ → List ℕ
 rest xs = take (length xs - 1) (drop 1 xs)
 
-pub proper-by : (xs : List ℕ) → 0 < length xs → (a b c d : Bool) → leb (arity_of (get_or xs 0 0)) arity_limit ≡ a → eqb (length (rest xs)) (name_words (get_or xs 0 0)) ≡ b
+pub proper_by : (xs : List ℕ) → 0 < length xs → (a b c d : Bool) → leb (arity_of (get_or xs 0 0)) arity_limit ≡ a → eqb (length (rest xs)) (name_words (get_or xs 0 0)) ≡ b
     → is_name (take (size_of (get_or xs 0 0)) (bytes_of (rest xs))) ≡ c → zeros (drop (size_of (get_or xs 0 0)) (bytes_of (rest xs))) ≡ d
     → proper xs ≡ ((a && b) && (c && d))
-proper-by [] h a b c d p q r s = absurd (omega arith)
-proper-by (x ∷ xs) h a b c d p q r s =
+proper_by [] h a b c d p q r s = absurd (omega arith)
+proper_by (x ∷ xs) h a b c d p q r s =
     ap (λ l. (leb (arity_of x) arity_limit && eqb (length l) (name_words x)) && (is_name (take (size_of x) (bytes_of l)) && zeros (drop (size_of x) (bytes_of l)))) (sym (take_rest (x ∷ xs) 1))
     ∙ ap₂ (λ (u v : Bool). (u && v) && (is_name (take (size_of (get_or (x ∷ xs) 0 0)) (bytes_of (rest (x ∷ xs)))) && zeros (drop (size_of (get_or (x ∷ xs) 0 0)) (bytes_of (rest (x ∷ xs)))))) p q
     ∙ ap₂ (λ (x y : Bool). (a && b) && (x && y)) r s

@@ -26,29 +26,29 @@ plain_byte b h =
     (λ r. ⊎_elim (λ x. between 48 57 b x (omega arith)) (λ x. exactly b 95 x (omega arith)) (or_cases (digit b) (eqb b 95) r))
     (or_cases (lower b || upper b) (digit b || eqb b 95) h)
 
-namely-byte : (b : ℕ) → namely b ≡ true → b < 256
-namely-byte b h =
+namely_byte : (b : ℕ) → namely b ≡ true → b < 256
+namely_byte b h =
     ⊎_elim (plain_byte b)
     (λ r. ⊎_elim (λ x. exactly b 46 x (omega arith)) (λ x. exactly b 45 x (omega arith)) (or_cases (eqb b 46) (eqb b 45) r))
     (or_cases (plain b) (eqb b 46 || eqb b 45) h)
 
-all-bytes : (f : List ℕ) → all namely f ≡ true → AllByRecursion (λ b. b < 256) f
-all-bytes [] h = tt
-all-bytes (b ∷ bs) h = let p = and_parts (namely b) (all namely bs) h in (namely-byte b p.0, all-bytes bs p.1)
+all_bytes : (f : List ℕ) → all namely f ≡ true → AllByRecursion (λ b. b < 256) f
+all_bytes [] h = tt
+all_bytes (b ∷ bs) h = let p = and_parts (namely b) (all namely bs) h in (namely_byte b p.0, all_bytes bs p.1)
 
 pub never : {A : Type 0} → false ≡ true → A
 never e = let z : ◌≡◌ {A = ℕ} 0 1 = cc in absurd (omega arith)
 
-pub name-bytes : (f : List ℕ) → is_name f ≡ true → AllByRecursion (λ b. b < 256) f
-name-bytes [] h = tt
-name-bytes (b ∷ bs) h =
+pub name_bytes_lem : (f : List ℕ) → is_name f ≡ true → AllByRecursion (λ b. b < 256) f
+name_bytes_lem [] h = tt
+name_bytes_lem (b ∷ bs) h =
     let p = and_parts (lower b) (leb (suc (length bs)) name_limit && all namely bs) h in
     let q = and_parts (leb (suc (length bs)) name_limit) (all namely bs) p.1 in
-    (between 97 122 b p.0 (omega arith), all-bytes bs q.1)
+    (between 97 122 b p.0 (omega arith), all_bytes bs q.1)
 
-pub name-short : (f : List ℕ) → is_name f ≡ true → length f ≤ name_limit
-name-short [] h = never h
-name-short (b ∷ bs) h =
+pub name_short : (f : List ℕ) → is_name f ≡ true → length f ≤ name_limit
+name_short [] h = never h
+name_short (b ∷ bs) h =
     let p = and_parts (lower b) (leb (suc (length bs)) name_limit && all namely bs) h in
     leb-true (suc (length bs)) name_limit (and_parts (leb (suc (length bs)) name_limit) (all namely bs) p.1).0
 
@@ -87,38 +87,38 @@ bytes_packed (a ∷ b ∷ c ∷ []) h = bytes_word a b c 0 h.0 h.1.0 h.1.1.0 (om
 bytes_packed (a ∷ b ∷ c ∷ d ∷ rest) h =
     bytes_word a b c d h.0 h.1.0 h.1.1.0 h.1.1.1.0 (packed rest) ∙ ap (λ (l : List ℕ). a ∷ b ∷ c ∷ d ∷ l) (bytes_packed rest h.1.1.1.1)
 
-zero-padding : (f : List ℕ) → zeros (padding f) ≡ true
-zero-padding [] = refl
-zero-padding (a ∷ []) = refl
-zero-padding (a ∷ b ∷ []) = refl
-zero-padding (a ∷ b ∷ c ∷ []) = refl
-zero-padding (a ∷ b ∷ c ∷ d ∷ rest) = zero-padding rest
+zero_padding : (f : List ℕ) → zeros (padding f) ≡ true
+zero_padding [] = refl
+zero_padding (a ∷ []) = refl
+zero_padding (a ∷ b ∷ []) = refl
+zero_padding (a ∷ b ∷ c ∷ []) = refl
+zero_padding (a ∷ b ∷ c ∷ d ∷ rest) = zero_padding rest
 
-pub length-packed : (f : List ℕ) → length (packed f) ≡ (length f + 3) / 4
-length-packed [] = refl
-length-packed (a ∷ []) = refl
-length-packed (a ∷ b ∷ []) = refl
-length-packed (a ∷ b ∷ c ∷ []) = refl
-length-packed (a ∷ b ∷ c ∷ d ∷ rest) = let ih = length-packed rest in omega arith
+pub length_packed : (f : List ℕ) → length (packed f) ≡ (length f + 3) / 4
+length_packed [] = refl
+length_packed (a ∷ []) = refl
+length_packed (a ∷ b ∷ []) = refl
+length_packed (a ∷ b ∷ c ∷ []) = refl
+length_packed (a ∷ b ∷ c ∷ d ∷ rest) = let ih = length_packed rest in omega arith
 
-take-front : (f g : List ℕ) → take (length f) (f ++ g) ≡ f
-take-front [] g = refl
-take-front (b ∷ f) g = ap (λ (l : List ℕ). b ∷ l) (take-front f g)
+take_front : (f g : List ℕ) → take (length f) (f ++ g) ≡ f
+take_front [] g = refl
+take_front (b ∷ f) g = ap (λ (l : List ℕ). b ∷ l) (take_front f g)
 
-drop-front : (f g : List ℕ) → drop (length f) (f ++ g) ≡ g
-drop-front [] g = refl
-drop-front (b ∷ f) g = drop-front f g
+drop_front : (f g : List ℕ) → drop (length f) (f ++ g) ≡ g
+drop_front [] g = refl
+drop_front (b ∷ f) g = drop_front f g
 
 -- words and their name
-nil-zeros : (ws : List ℕ) → suc (length ws) ≡ 1 → ws ≡ []
-nil-zeros [] h = refl
-nil-zeros (w ∷ ws) h = absurd (omega arith)
+nil_zeros : (ws : List ℕ) → suc (length ws) ≡ 1 → ws ≡ []
+nil_zeros [] h = refl
+nil_zeros (w ∷ ws) h = absurd (omega arith)
 
-pub packed-bytes : (ws : List ℕ) (n : ℕ) → AllByRecursion (λ w. w < 2 ^ 32) ws → length ws ≡ (n + 3) / 4 → zeros (drop n (bytes_of ws)) ≡ true → packed (take n (bytes_of ws)) ≡ ws
-packed-bytes [] zero h l z = refl
-packed-bytes [] (suc n) h l z = absurd (omega arith)
-packed-bytes (w ∷ ws) zero h l z = absurd (omega arith)
-packed-bytes (w ∷ ws) (suc zero) h l z =
+pub packed_bytes : (ws : List ℕ) (n : ℕ) → AllByRecursion (λ w. w < 2 ^ 32) ws → length ws ≡ (n + 3) / 4 → zeros (drop n (bytes_of ws)) ≡ true → packed (take n (bytes_of ws)) ≡ ws
+packed_bytes [] zero h l z = refl
+packed_bytes [] (suc n) h l z = absurd (omega arith)
+packed_bytes (w ∷ ws) zero h l z = absurd (omega arith)
+packed_bytes (w ∷ ws) (suc zero) h l z =
     let b = w / 256 % 256 in
     let c = w / 65536 % 256 in
     let d = w / 16777216 % 256 in
@@ -128,8 +128,8 @@ packed-bytes (w ∷ ws) (suc zero) h l z =
     let eb = eqb-true b 0 p.0 in
     let ec = eqb-true c 0 q.0 in
     let ed = eqb-true d 0 r.0 in
-    ap₂ ◌∷◌ (ap (λ k. word_of (w % 256) k 0 0) (sym eb) ∙ ap₂ (word_of (w % 256) b) (sym ec) (sym ed) ∙ whole w h.0) (sym (nil-zeros ws (omega arith)))
-packed-bytes (w ∷ ws) (suc (suc zero)) h l z =
+    ap₂ ◌∷◌ (ap (λ k. word_of (w % 256) k 0 0) (sym eb) ∙ ap₂ (word_of (w % 256) b) (sym ec) (sym ed) ∙ whole w h.0) (sym (nil_zeros ws (omega arith)))
+packed_bytes (w ∷ ws) (suc (suc zero)) h l z =
     let b = w / 256 % 256 in
     let c = w / 65536 % 256 in
     let d = w / 16777216 % 256 in
@@ -137,74 +137,74 @@ packed-bytes (w ∷ ws) (suc (suc zero)) h l z =
     let r = and_parts (eqb d 0) (zeros (bytes_of ws)) q.1 in
     let ec = eqb-true c 0 q.0 in
     let ed = eqb-true d 0 r.0 in
-    ap₂ ◌∷◌ (ap₂ (word_of (w % 256) b) (sym ec) (sym ed) ∙ whole w h.0) (sym (nil-zeros ws (omega arith)))
-packed-bytes (w ∷ ws) (suc (suc (suc zero))) h l z =
+    ap₂ ◌∷◌ (ap₂ (word_of (w % 256) b) (sym ec) (sym ed) ∙ whole w h.0) (sym (nil_zeros ws (omega arith)))
+packed_bytes (w ∷ ws) (suc (suc (suc zero))) h l z =
     let b = w / 256 % 256 in
     let c = w / 65536 % 256 in
     let d = w / 16777216 % 256 in
     let r = and_parts (eqb d 0) (zeros (bytes_of ws)) z in
     let ed = eqb-true d 0 r.0 in
-    ap₂ ◌∷◌ (ap (word_of (w % 256) b c) (sym ed) ∙ whole w h.0) (sym (nil-zeros ws (omega arith)))
-packed-bytes (w ∷ ws) (suc (suc (suc (suc n)))) h l z =
-    ap₂ ◌∷◌ (whole w h.0) (packed-bytes ws n h.1 (omega arith) z)
+    ap₂ ◌∷◌ (ap (word_of (w % 256) b c) (sym ed) ∙ whole w h.0) (sym (nil_zeros ws (omega arith)))
+packed_bytes (w ∷ ws) (suc (suc (suc (suc n)))) h l z =
+    ap₂ ◌∷◌ (whole w h.0) (packed_bytes ws n h.1 (omega arith) z)
 
 -- a good symbol's words
 module _ (s : Symbol) (good : Good s) where
   pub size_is : size_of (s.arity * 256 + length s.name) ≡ length s.name
-  size_is = let l = name-short s.name good.0 in omega arith
+  size_is = let l = name_short s.name good.0 in omega arith
 
-  pub arity-is : arity_of (s.arity * 256 + length s.name) ≡ s.arity
-  arity-is = let l = name-short s.name good.0 in omega arith
+  pub arity_is : arity_of (s.arity * 256 + length s.name) ≡ s.arity
+  arity_is = let l = name_short s.name good.0 in omega arith
 
-  bytes-are : bytes_of (packed s.name) ≡ s.name ++ padding s.name
-  bytes-are = bytes_packed s.name (name-bytes s.name good.0)
+  bytes_are : bytes_of (packed s.name) ≡ s.name ++ padding s.name
+  bytes_are = bytes_packed s.name (name_bytes_lem s.name good.0)
 
-  name-is : take (size_of (s.arity * 256 + length s.name)) (bytes_of (packed s.name)) ≡ s.name
-  name-is = ap₂ (λ (n : ℕ) (l : List ℕ). take n l) size_is bytes-are ∙ take-front s.name (padding s.name)
+  name_is : take (size_of (s.arity * 256 + length s.name)) (bytes_of (packed s.name)) ≡ s.name
+  name_is = ap₂ (λ (n : ℕ) (l : List ℕ). take n l) size_is bytes_are ∙ take_front s.name (padding s.name)
 
-  blank-is : drop (size_of (s.arity * 256 + length s.name)) (bytes_of (packed s.name)) ≡ padding s.name
-  blank-is = ap₂ (λ (n : ℕ) (l : List ℕ). drop n l) size_is bytes-are ∙ drop-front s.name (padding s.name)
+  blank_is : drop (size_of (s.arity * 256 + length s.name)) (bytes_of (packed s.name)) ≡ padding s.name
+  blank_is = ap₂ (λ (n : ℕ) (l : List ℕ). drop n l) size_is bytes_are ∙ drop_front s.name (padding s.name)
 
-  pub words-length : length (packed s.name) ≡ name_words (s.arity * 256 + length s.name)
-  words-length = length-packed s.name ∙ ap (λ n. (n + 3) / 4) (sym size_is)
+  pub words_length : length (packed s.name) ≡ name_words (s.arity * 256 + length s.name)
+  words_length = length_packed s.name ∙ ap (λ n. (n + 3) / 4) (sym size_is)
 
-  pub proper-symbol : proper (symbol_words s) ≡ true
-  proper-symbol =
+  pub proper_symbol : proper (symbol_words s) ≡ true
+  proper_symbol =
       let w = s.arity * 256 + length s.name in
       and_from (leb (arity_of w) arity_limit && eqb (length (packed s.name)) (name_words w)) (is_name (take (size_of w) (bytes_of (packed s.name))) && zeros (drop (size_of w) (bytes_of (packed s.name))))
-      (and_from (leb (arity_of w) arity_limit) (eqb (length (packed s.name)) (name_words w)) (ap (λ k. leb k arity_limit) arity-is ∙ le-leb s.arity arity_limit good.1) (eq-eqb _ _ words-length))
-      (and_from (is_name (take (size_of w) (bytes_of (packed s.name)))) (zeros (drop (size_of w) (bytes_of (packed s.name)))) (ap is_name name-is ∙ good.0) (ap zeros blank-is ∙ zero-padding s.name))
+      (and_from (leb (arity_of w) arity_limit) (eqb (length (packed s.name)) (name_words w)) (ap (λ k. leb k arity_limit) arity_is ∙ le-leb s.arity arity_limit good.1) (eq-eqb _ _ words_length))
+      (and_from (is_name (take (size_of w) (bytes_of (packed s.name)))) (zeros (drop (size_of w) (bytes_of (packed s.name)))) (ap is_name name_is ∙ good.0) (ap zeros blank_is ∙ zero_padding s.name))
 
-  pub symbol-words : symbol_of (symbol_words s) ≡ s
-  symbol-words = ap₂ (λ (f : List ℕ) (n : ℕ). symbol f n) name-is arity-is
+  pub symbol_words_lem : symbol_of (symbol_words s) ≡ s
+  symbol_words_lem = ap₂ (λ (f : List ℕ) (n : ℕ). symbol f n) name_is arity_is
     where
       symbol : List ℕ → ℕ → Symbol
       symbol f n = record { name = f; arity = n }
 
 -- proper words
-pub words-good : (x : List ℕ) → proper x ≡ true → Good (symbol_of x)
-words-good [] h = never h
-words-good (w ∷ ws) h =
+pub words_good : (x : List ℕ) → proper x ≡ true → Good (symbol_of x)
+words_good [] h = never h
+words_good (w ∷ ws) h =
     let p = and_parts (leb (arity_of w) arity_limit && eqb (length ws) (name_words w)) (is_name (take (size_of w) (bytes_of ws)) && zeros (drop (size_of w) (bytes_of ws))) h in (
       (and_parts (is_name (take (size_of w) (bytes_of ws))) (zeros (drop (size_of w) (bytes_of ws))) p.1).0,
       leb-true (arity_of w) arity_limit (and_parts (leb (arity_of w) arity_limit) (eqb (length ws) (name_words w)) p.0).0,
     )
 
-length-take-front : (n : ℕ) (l : List ℕ) → n ≤ length l → length (take n l) ≡ n
-length-take-front zero l h = refl
-length-take-front (suc n) [] h = absurd (omega arith)
-length-take-front (suc n) (x ∷ l) h = ap suc (length-take-front n l (omega arith))
+length_take_front : (n : ℕ) (l : List ℕ) → n ≤ length l → length (take n l) ≡ n
+length_take_front zero l h = refl
+length_take_front (suc n) [] h = absurd (omega arith)
+length_take_front (suc n) (x ∷ l) h = ap suc (length_take_front n l (omega arith))
 
-long-bytes : (ws : List ℕ) → length (bytes_of ws) ≡ 4 * length ws
-long-bytes [] = refl
-long-bytes (w ∷ ws) = let ih = long-bytes ws in omega arith
+long_bytes : (ws : List ℕ) → length (bytes_of ws) ≡ 4 * length ws
+long_bytes [] = refl
+long_bytes (w ∷ ws) = let ih = long_bytes ws in omega arith
 
-pub words-symbol : (x : List ℕ) → AllByRecursion (λ w. w < 2 ^ 32) x → proper x ≡ true → symbol_words (symbol_of x) ≡ x
-words-symbol [] f h = never h
-words-symbol (w ∷ ws) f h =
+pub words_symbol : (x : List ℕ) → AllByRecursion (λ w. w < 2 ^ 32) x → proper x ≡ true → symbol_words (symbol_of x) ≡ x
+words_symbol [] f h = never h
+words_symbol (w ∷ ws) f h =
     let p = and_parts (leb (arity_of w) arity_limit && eqb (length ws) (name_words w)) (is_name (take (size_of w) (bytes_of ws)) && zeros (drop (size_of w) (bytes_of ws))) h in
     let n = eqb-true (length ws) (name_words w) (and_parts (leb (arity_of w) arity_limit) (eqb (length ws) (name_words w)) p.0).1 in
     let z = (and_parts (is_name (take (size_of w) (bytes_of ws))) (zeros (drop (size_of w) (bytes_of ws))) p.1).1 in
-    let size : length (take (size_of w) (bytes_of ws)) ≡ size_of w = length-take-front (size_of w) (bytes_of ws) (omega (arith, long-bytes ws)) in
+    let size : length (take (size_of w) (bytes_of ws)) ≡ size_of w = length_take_front (size_of w) (bytes_of ws) (omega (arith, long_bytes ws)) in
     let first : arity_of w * 256 + length (take (size_of w) (bytes_of ws)) ≡ w = omega arith in
-    ap₂ ◌∷◌ first (packed-bytes ws (size_of w) f.1 n z)
+    ap₂ ◌∷◌ first (packed_bytes ws (size_of w) f.1 n z)

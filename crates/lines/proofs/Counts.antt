@@ -9,30 +9,30 @@ use Rattle.lines.specs.Kinds.{least, heads}
 use Rattle.lines.specs.Lines.{check, build}
 use Rattle.lines.specs.Grammar.{Good, Goods}
 use Rattle.lines.specs.Tokens.{before, words_of}
-use Rattle.lines.proofs.WordLaws.{word-field}
+use Rattle.lines.proofs.WordLaws.{word_field}
 use Rattle.lines.proofs.Accepts.{Accepted, accepted}
 
 -- the fields of terms are their words
 mutual
-  words-term : (t : Term Name) (ws : List Word) → Good t → words_of (map field (words t ws)) ≡ words t (words_of (map field ws))
-  words-term (var v) ws h = ap (λ o. before o (words_of (map field ws))) (word-field (variable v) h)
-  words-term (node f ts) ws h =
-      ap (λ o. before o (words_of (map field (wordss ts ws)))) (word-field (word_for f (count ts)) h.0)
-      ∙ ap (λ xs. word_for f (count ts) ∷ xs) (words-terms ts ws h.1)
+  words_term : (t : Term Name) (ws : List Word) → Good t → words_of (map field (words t ws)) ≡ words t (words_of (map field ws))
+  words_term (var v) ws h = ap (λ o. before o (words_of (map field ws))) (word_field (variable v) h)
+  words_term (node f ts) ws h =
+      ap (λ o. before o (words_of (map field (wordss ts ws)))) (word_field (word_for f (count ts)) h.0)
+      ∙ ap (λ xs. word_for f (count ts) ∷ xs) (words_terms ts ws h.1)
 
-  words-terms : (ts : Written) (ws : List Word) → Goods ts → words_of (map field (wordss ts ws)) ≡ wordss ts (words_of (map field ws))
-  words-terms nil ws h = refl
-  words-terms (cons t ts) ws h = words-term t (wordss ts ws) h.0 ∙ ap (words t) (words-terms ts ws h.1)
+  words_terms : (ts : Written) (ws : List Word) → Goods ts → words_of (map field (wordss ts ws)) ≡ wordss ts (words_of (map field ws))
+  words_terms nil ws h = refl
+  words_terms (cons t ts) ws h = words_term t (wordss ts ws) h.0 ∙ ap (words t) (words_terms ts ws h.1)
 
 module _ (k : Kind) (d w : ℕ) (fs : List (List ℕ)) (e : check (heads k + d) 0 (least k) 0 3 fs ≡ Ok w) where
   all : Accepted (heads k + d) 0 (least k) 0 w fs (build fs)
   all = accepted fs (heads k + d) 0 (least k) 0 3 w (omega arith) e
 
-  pub goals-are : heads k + d ≡ count (build fs)
-  goals-are = omega (arith, all.counted)
+  pub goals_are : heads k + d ≡ count (build fs)
+  goals_are = omega (arith, all.counted)
 
   pub weight_is : w ≡ load (least k) (build fs)
   weight_is = omega (arith, all.weight)
 
-  pub tokens-are : words_of fs ≡ wordss (build fs) []
-  tokens-are = ap words_of (sym all.spelt) ∙ words-terms (build fs) [] all.good
+  pub tokens_are : words_of fs ≡ wordss (build fs) []
+  tokens_are = ap words_of (sym all.spelt) ∙ words_terms (build fs) [] all.good

@@ -20,18 +20,18 @@ module _ (limit b : ℕ) (xs : List ℕ) (n : ℕ) where
   kept_full h e = sym (take_at (take n xs) (b ∷ []) limit (length-take-le n xs h ∙ e))
 
 -- a line over the limit is refused whatever it holds
-read-long : (k : Kind) (line : List ℕ) → line_limit < length line → read k line ≡ Err Length
-read-long k line h = cond-true _ _ _ (or_right (eqb (length line) 0) (ltb line_limit (length line)) (lt-ltb line_limit (length line) h))
+read_long : (k : Kind) (line : List ℕ) → line_limit < length line → read k line ≡ Err Length
+read_long k line h = cond-true _ _ _ (or_right (eqb (length line) 0) (ltb line_limit (length line)) (lt-ltb line_limit (length line) h))
 
-read-enough : (k : Kind) (n : ℕ) (line : List ℕ) → line_limit < n → read k (take n line) ≡ read k line
-read-enough k n line h = go (leb (length line) n) refl
+read_enough : (k : Kind) (n : ℕ) (line : List ℕ) → line_limit < n → read k (take n line) ≡ read k line
+read_enough k n line h = go (leb (length line) n) refl
   where
     go : (t : Bool) → leb (length line) n ≡ t → read k (take n line) ≡ read k line
     go true e = ap (read k) (take_all n line (leb-true (length line) n e))
     go false e =
         let long = leb-false (length line) n e in
-        read-long k (take n line) (omega (arith, length-take-le n line (omega arith))) ∙ sym (read-long k line (omega arith))
+        read_long k (take n line) (omega (arith, length-take-le n line (omega arith))) ∙ sym (read_long k line (omega arith))
 
-pub enough-read : (n : ℕ) → line_limit < n → EnoughRead n
-enough-read n h line =
-    (ap (λ r. then (λ e. e) r clause_from) (read-enough ClauseLine n line h), ap (λ r. then (λ e. e) r (λ ts. Ok (aparts 0 ts))) (read-enough QueryLine n line h))
+pub enough_read : (n : ℕ) → line_limit < n → EnoughRead n
+enough_read n h line =
+    (ap (λ r. then (λ e. e) r clause_from) (read_enough ClauseLine n line h), ap (λ r. then (λ e. e) r (λ ts. Ok (aparts 0 ts))) (read_enough QueryLine n line h))

@@ -15,9 +15,9 @@ pub all_right : {X : Type 0} (P : X → Type 0) (xs ys : List X) → AllByRecurs
 all_right P [] ys h = h
 all_right P (x ∷ xs) ys h = all_right P xs ys h.1
 
-pub rows-length : (i j n : ℕ) → length (rows i j n) ≡ n
-rows-length i j zero = refl
-rows-length i j (suc n) = ap suc (rows-length (suc i) (suc j) n)
+pub rows_length : (i j n : ℕ) → length (rows i j n) ≡ n
+rows_length i j zero = refl
+rows_length i j (suc n) = ap suc (rows_length (suc i) (suc j) n)
 
 rows_more : (i j n : ℕ) → rows i j n ++ pair (i + n) (j + n) ∷ [] ≡ rows i j (suc n)
 rows_more i j zero =
@@ -30,8 +30,8 @@ rows_more i j (suc n) =
     ap (λ x. pair i j ∷ x) (ap₂ (λ x y. rows (suc i) (suc j) n ++ pair x y ∷ []) a b ∙ rows_more (suc i) (suc j) n)
 
 -- as a loop adds them
-pub rows-push : (ps qs qs' : List Pair) (i j k : ℕ) → qs ≡ ps ++ rows i j k → qs' ≡ qs ++ pair (i + k) (j + k) ∷ [] → qs' ≡ ps ++ rows i j (k + 1)
-rows-push ps qs qs' i j k e f =
+pub rows_push : (ps qs qs' : List Pair) (i j k : ℕ) → qs ≡ ps ++ rows i j k → qs' ≡ qs ++ pair (i + k) (j + k) ∷ [] → qs' ≡ ps ++ rows i j (k + 1)
+rows_push ps qs qs' i j k e f =
     let next : suc k ≡ k + 1 = omega arith in
     f ∙ ap (λ x. x ++ pair (i + k) (j + k) ∷ []) e ∙ append_assoc ps (rows i j k) (pair (i + k) (j + k) ∷ []) ∙ ap (λ x. ps ++ x) (rows_more i j k ∙ ap (rows i j) next)
 
@@ -49,6 +49,6 @@ rows_agree ρ i j (suc n) e =
     let tail : span ρ (suc i) n ≡ span ρ (suc j) n = cc in
     (head, rows_agree ρ (suc i) (suc j) n tail)
 
-pub agree-rows : (ρ : Valuation) (i j n : ℕ) → Agree ρ (rows i j n) → span ρ i n ≡ span ρ j n
-agree-rows ρ i j zero h = refl
-agree-rows ρ i j (suc n) h = ap₂ cons h.0 (agree-rows ρ (suc i) (suc j) n h.1)
+pub agree_rows : (ρ : Valuation) (i j n : ℕ) → Agree ρ (rows i j n) → span ρ i n ≡ span ρ j n
+agree_rows ρ i j zero h = refl
+agree_rows ρ i j (suc n) h = ap₂ cons h.0 (agree_rows ρ (suc i) (suc j) n h.1)

@@ -10,15 +10,15 @@ use Rattle.heap.specs.Solutions.{Valuation, span}
 use Rattle.heap.specs.declared.cell.Cell.TheVariants.{Ref, Node}
 use Rattle.cells.specs.States.{Fine}
 use Rattle.cells.specs.Growth.{Spare}
-use Rattle.cells.proofs.StateLaws.{spare-none, spare-push}
+use Rattle.cells.proofs.StateLaws.{spare_none, spare_push}
 use Rattle.code.specs.declared.instructions.Operand.TheVariants.{Known, Constant as Fixed}
 use Rattle.code.specs.Meaning.{Symbols, Terming}
 use Rattle.entering.specs.declared.goal.Goal.{Goal}
 use Rattle.entering.specs.Goals.{worth, Good}
 use Rattle.entering.specs.Turns.{Slots, Nothing, Stands, Turned, slot_cell, slot_set}
-use Rattle.entering.proofs.TurnLaws.{turned-map, turned_then, turned-still, turned-push}
-use Rattle.entering.proofs.OperandLaws.{turned-made}
-use Rattle.entering.proofs.StepLaws.{goods-more}
+use Rattle.entering.proofs.TurnLaws.{turned_map, turned_then, turned_still, turned_push}
+use Rattle.entering.proofs.OperandLaws.{turned_made}
+use Rattle.entering.proofs.StepLaws.{goods_more}
 use Rattle.posing.specs.declared.pieces.Piece.{Piece}
 use Rattle.posing.specs.declared.pieces.Piece.TheVariants.{Constant, Variable, Structure, Goal as Asks}
 use Rattle.posing.specs.declared.pieces.Entry.{Entry}
@@ -27,14 +27,14 @@ use Rattle.posing.specs.Queries.{stack}
 use Rattle.posing.specs.Stacks.{term, terms_of, Laid, Sits, Reads, seated, seated_slots, Has, Waiting, Posing, Seating}
 
 -- a cell for an entry
-pub turned-seated : (table : List ℕ) (H : Heap) (S : Slots) (e : Entry) → Stands table H S → Sits table (length S) (length H) e
+pub turned_seated : (table : List ℕ) (H : Heap) (S : Slots) (e : Entry) → Stands table H S → Sits table (length S) (length H) e
     → Turned table H S Nothing (λ s ρ σ. ρ (length H) ≡ term s ρ σ e) (H ++ seated S e ∷ []) (seated_slots S e (length H))
-turned-seated table H S (Atom c) st h = turned-made table H S st (Fixed c) h
-turned-seated table H S (Slot y) st h = turned-made table H S st (Known y) h
-turned-seated table H S (Place i) st h = turned-push table H S (Ref i) st (λ j q. omega arith) (λ f n b q. let z : ◌≡◌ {A = ℕ} 0 1 = cc in absurd (omega arith))
+turned_seated table H S (Atom c) st h = turned_made table H S st (Fixed c) h
+turned_seated table H S (Slot y) st h = turned_made table H S st (Known y) h
+turned_seated table H S (Place i) st h = turned_push table H S (Ref i) st (λ j q. omega arith) (λ f n b q. let z : ◌≡◌ {A = ℕ} 0 1 = cc in absurd (omega arith))
 
 pub laid_none : (table : List ℕ) (H : Heap) (S : Slots) (en : ℕ → Entry) → Stands table H S → Turned table H S Nothing (Laid (length H) en 0) H S
-laid_none table H S en st = turned-still table H S Nothing (Laid (length H) en 0) st (λ s n ρ σ h f j l. absurd (omega arith))
+laid_none table H S en st = turned_still table H S Nothing (Laid (length H) en 0) st (λ s n ρ σ h f j l. absurd (omega arith))
 
 row_more : (P : ℕ → Type 0) (k : ℕ) → ((j : ℕ) → j < k → P j) → P k → (j : ℕ) → j < k + 1 → P j
 row_more P k h p j l = elim (dec_lt j k) [ yes lt ↦ h j lt | no ge ↦ (let e : k ≡ j = omega arith in subst P e p) ]
@@ -47,40 +47,40 @@ laid_more table en {H} {H₁} k long first second =
     (λ s n ρ σ h f e d. row_more (λ j. ρ (length H + j) ≡ term s ρ σ (en j)) k e (ap ρ (sym long) ∙ d))
 
 -- the first n entries, and the others
-laid-front : (s : Symbols) (ρ : Valuation) (σ : Terming) (n : ℕ) (es : List Entry) (b : ℕ) → n ≤ length es → ((j : ℕ) → j < n → ρ (b + j) ≡ term s ρ σ (get_or es j (Atom 0))) → span ρ b n ≡ front n (terms_of s ρ σ es)
-laid-front s ρ σ zero es b le h = refl
-laid-front s ρ σ (suc n) [] b le h = absurd (omega arith)
-laid-front s ρ σ (suc n) (e ∷ es) b le h =
-    ap₂ cons (ap ρ (omega arith) ∙ h 0 (omega arith)) (laid-front s ρ σ n es (suc b) (omega arith) (λ j l. ap ρ (omega arith) ∙ h (suc j) (omega arith)))
+laid_front : (s : Symbols) (ρ : Valuation) (σ : Terming) (n : ℕ) (es : List Entry) (b : ℕ) → n ≤ length es → ((j : ℕ) → j < n → ρ (b + j) ≡ term s ρ σ (get_or es j (Atom 0))) → span ρ b n ≡ front n (terms_of s ρ σ es)
+laid_front s ρ σ zero es b le h = refl
+laid_front s ρ σ (suc n) [] b le h = absurd (omega arith)
+laid_front s ρ σ (suc n) (e ∷ es) b le h =
+    ap₂ cons (ap ρ (omega arith) ∙ h 0 (omega arith)) (laid_front s ρ σ n es (suc b) (omega arith) (λ j l. ap ρ (omega arith) ∙ h (suc j) (omega arith)))
 
-drop-back : (s : Symbols) (ρ : Valuation) (σ : Terming) (n : ℕ) (es : List Entry) → terms_of s ρ σ (drop n es) ≡ back n (terms_of s ρ σ es)
-drop-back s ρ σ zero es = refl
-drop-back s ρ σ (suc n) [] = refl
-drop-back s ρ σ (suc n) (e ∷ es) = drop-back s ρ σ n es
+drop_back : (s : Symbols) (ρ : Valuation) (σ : Terming) (n : ℕ) (es : List Entry) → terms_of s ρ σ (drop n es) ≡ back n (terms_of s ρ σ es)
+drop_back s ρ σ zero es = refl
+drop_back s ρ σ (suc n) [] = refl
+drop_back s ρ σ (suc n) (e ∷ es) = drop_back s ρ σ n es
 
 all_drop : {X : Type 0} (P : X → Type 0) (n : ℕ) (xs : List X) → AllByRecursion P xs → AllByRecursion P (drop n xs)
 all_drop P zero xs h = h
 all_drop P (suc n) [] h = tt
 all_drop P (suc n) (x ∷ xs) h = all_drop P n xs h.1
 
-sits-more : (table : List ℕ) (m m' n n' : ℕ) (e : Entry) → m' ≡ m → n ≤ n' → Sits table m n e → Sits table m' n' e
-sits-more table m m' n n' (Atom c) em le h = h
-sits-more table m m' n n' (Slot y) em le h = omega arith
-sits-more table m m' n n' (Place i) em le h = omega arith
+sits_more : (table : List ℕ) (m m' n n' : ℕ) (e : Entry) → m' ≡ m → n ≤ n' → Sits table m n e → Sits table m' n' e
+sits_more table m m' n n' (Atom c) em le h = h
+sits_more table m m' n n' (Slot y) em le h = omega arith
+sits_more table m m' n n' (Place i) em le h = omega arith
 
-pub sits-all : (table : List ℕ) (m m' n n' : ℕ) (es : List Entry) → m' ≡ m → n ≤ n' → AllByRecursion (Sits table m n) es → AllByRecursion (Sits table m' n') es
-sits-all table m m' n n' es em le h = All-weaker (Sits table m n) (Sits table m' n') (λ e. sits-more table m m' n n' e em le) es h
+pub sits_all : (table : List ℕ) (m m' n n' : ℕ) (es : List Entry) → m' ≡ m → n ≤ n' → AllByRecursion (Sits table m n) es → AllByRecursion (Sits table m' n') es
+sits_all table m m' n n' es em le h = All-weaker (Sits table m n) (Sits table m' n') (λ e. sits_more table m m' n n' e em le) es h
 
-wait-drop : (S : Slots) (y n : ℕ) (es : List Entry) → Waiting y es → ((j : ℕ) → j < n → get_or es j (Atom 0) ≡ Slot y → Has S y) → Waiting y (drop n es) ⊎ Has S y
-wait-drop S y zero es w h = inl w
-wait-drop S y (suc n) [] w h = absurd w
-wait-drop S y (suc n) (e ∷ es) (inl q) h = inr (h 0 (omega arith) q)
-wait-drop S y (suc n) (e ∷ es) (inr w) h = wait-drop S y n es w (λ j l q. h (suc j) (omega arith) q)
+wait_drop : (S : Slots) (y n : ℕ) (es : List Entry) → Waiting y es → ((j : ℕ) → j < n → get_or es j (Atom 0) ≡ Slot y → Has S y) → Waiting y (drop n es) ⊎ Has S y
+wait_drop S y zero es w h = inl w
+wait_drop S y (suc n) [] w h = absurd w
+wait_drop S y (suc n) (e ∷ es) (inl q) h = inr (h 0 (omega arith) q)
+wait_drop S y (suc n) (e ∷ es) (inr w) h = wait_drop S y n es w (λ j l q. h (suc j) (omega arith) q)
 
 module _ (table : List ℕ) (S₀ : Slots) where
-  pub posing-none : Stands table [] S₀ → Posing table S₀ [] [] S₀ [] []
-  posing-none st = record {
-    turned = turned-still table [] S₀ Nothing (Reads [] [] []) st (λ s n ρ σ h f. (refl, refl));
+  pub posing_none : Stands table [] S₀ → Posing table S₀ [] [] S₀ [] []
+  posing_none st = record {
+    turned = turned_still table [] S₀ Nothing (Reads [] [] []) st (λ s n ρ σ h f. (refl, refl));
     sits = tt;
     goods = tt;
     count = refl;
@@ -90,9 +90,9 @@ module _ (table : List ℕ) (S₀ : Slots) where
   }
 
   module _ (ps : List Piece) (H : Heap) (S : Slots) (es : List Entry) (G : List Goal) (p : Posing table S₀ ps H S es G) where
-    pub posing-constant : (c : ℕ) → c < length table → get_or table c 0 ≡ 0 → Posing table S₀ (Constant c ∷ ps) H S (Atom c ∷ es) G
-    posing-constant c known none = record {
-      turned = turned-map table Nothing (Reads es G ps) Nothing (Reads (Atom c ∷ es) G (Constant c ∷ ps)) p.turned (λ s n ρ σ h f q. tt)
+    pub posing_constant : (c : ℕ) → c < length table → get_or table c 0 ≡ 0 → Posing table S₀ (Constant c ∷ ps) H S (Atom c ∷ es) G
+    posing_constant c known none = record {
+      turned = turned_map table Nothing (Reads es G ps) Nothing (Reads (Atom c ∷ es) G (Constant c ∷ ps)) p.turned (λ s n ρ σ h f q. tt)
           (λ s n ρ σ h f e. (ap (cons (node (s.name c) nil)) e.0, e.1));
       sits = ((known, none), p.sits);
       goods = p.goods;
@@ -102,9 +102,9 @@ module _ (table : List ℕ) (S₀ : Slots) where
       placed = λ y o. elim (p.placed y o) [ inl w ↦ inl (inr w) | inr h ↦ inr h ];
     }
 
-    pub posing-variable : (y : ℕ) → y < length S → Posing table S₀ (Variable y ∷ ps) H S (Slot y ∷ es) G
-    posing-variable y lt = record {
-      turned = turned-map table Nothing (Reads es G ps) Nothing (Reads (Slot y ∷ es) G (Variable y ∷ ps)) p.turned (λ s n ρ σ h f q. tt)
+    pub posing_variable : (y : ℕ) → y < length S → Posing table S₀ (Variable y ∷ ps) H S (Slot y ∷ es) G
+    posing_variable y lt = record {
+      turned = turned_map table Nothing (Reads es G ps) Nothing (Reads (Slot y ∷ es) G (Variable y ∷ ps)) p.turned (λ s n ρ σ h f q. tt)
           (λ s n ρ σ h f e. (ap (cons (σ y)) e.0, e.1));
       sits = (lt, p.sits);
       goods = p.goods;
@@ -120,7 +120,7 @@ module _ (table : List ℕ) (S₀ : Slots) where
         (kept : (y : ℕ) → Has S y → Has S₁ y) (given : (j y : ℕ) → j < n → get_or es j (Atom 0) ≡ Slot y → Has S₁ y) where
       -- a variable waits still, or has its cell now
       placed_on : (y : ℕ) → Waiting y es ⊎ Has S y → Waiting y (drop n es) ⊎ Has S₁ y
-      placed_on y (inl w) = wait-drop S₁ y n es w (λ j l e. given j y l e)
+      placed_on y (inl w) = wait_drop S₁ y n es w (λ j l e. given j y l e)
       placed_on y (inr h) = inr (kept y h)
 
       both : Turned table [] S₀ Nothing (λ s ρ σ. Reads es G ps s ρ σ × Laid (length H) (λ j. get_or es j (Atom 0)) n s ρ σ) H₁ S₁
@@ -128,95 +128,95 @@ module _ (table : List ℕ) (S₀ : Slots) where
           (Laid (length H) (λ j. get_or es j (Atom 0)) n) (λ s ρ σ. Reads es G ps s ρ σ × Laid (length H) (λ j. get_or es j (Atom 0)) n s ρ σ) t (λ s n ρ σ h f e d. (e, d))
 
       args_are : (s : Symbols) (ρ : Valuation) (σ : Terming) → Reads es G ps s ρ σ → Laid (length H) (λ j. get_or es j (Atom 0)) n s ρ σ → span ρ (length H) n ≡ front n (stack s σ ps)
-      args_are s ρ σ e d = laid-front s ρ σ n es (length H) enough d ∙ ap (front n) e.0
+      args_are s ρ σ e d = laid_front s ρ σ n es (length H) enough d ∙ ap (front n) e.0
 
-      rest-are : (s : Symbols) (ρ : Valuation) (σ : Terming) → Reads es G ps s ρ σ → terms_of s ρ σ (drop n es) ≡ back n (stack s σ ps)
-      rest-are s ρ σ e = drop-back s ρ σ n es ∙ ap (back n) e.0
+      rest_are : (s : Symbols) (ρ : Valuation) (σ : Terming) → Reads es G ps s ρ σ → terms_of s ρ σ (drop n es) ≡ back n (stack s σ ps)
+      rest_are s ρ σ e = drop_back s ρ σ n es ∙ ap (back n) e.0
 
-      pub posing-goal : (g : Goal) → g ≡ record { symbol = f; arity = n; first = length H } → Posing table S₀ (Asks f n ∷ ps) H₁ S₁ (drop n es) (g ∷ G)
-      posing-goal g is = record {
-        turned = turned-map table Nothing (λ s ρ σ. Reads es G ps s ρ σ × Laid (length H) (λ j. get_or es j (Atom 0)) n s ρ σ) Nothing (Reads (drop n es) (g ∷ G) (Asks f n ∷ ps)) both (λ s n ρ σ h f q. tt)
-            (λ s names ρ σ h ft e. (rest-are s ρ σ e.0, ap₂ cons (ap (worth s ρ) is ∙ ap (node (s.name f)) (args_are s ρ σ e.0 e.1)) e.0.1));
-        sits = sits-all table (length S) (length S₁) (length H) (length H₁) (drop n es) same (omega arith) (all_drop (Sits table (length S) (length H)) n es p.sits);
-        goods = (subst (Good table (length H₁)) (sym is) (record { known = known; size = size; held = λ j l. omega arith }), goods-more table (length H) (length H₁) G (omega arith) p.goods);
+      pub posing_goal : (g : Goal) → g ≡ record { symbol = f; arity = n; first = length H } → Posing table S₀ (Asks f n ∷ ps) H₁ S₁ (drop n es) (g ∷ G)
+      posing_goal g is = record {
+        turned = turned_map table Nothing (λ s ρ σ. Reads es G ps s ρ σ × Laid (length H) (λ j. get_or es j (Atom 0)) n s ρ σ) Nothing (Reads (drop n es) (g ∷ G) (Asks f n ∷ ps)) both (λ s n ρ σ h f q. tt)
+            (λ s names ρ σ h ft e. (rest_are s ρ σ e.0, ap₂ cons (ap (worth s ρ) is ∙ ap (node (s.name f)) (args_are s ρ σ e.0 e.1)) e.0.1));
+        sits = sits_all table (length S) (length S₁) (length H) (length H₁) (drop n es) same (omega arith) (all_drop (Sits table (length S) (length H)) n es p.sits);
+        goods = (subst (Good table (length H₁)) (sym is) (record { known = known; size = size; held = λ j l. omega arith }), goods_more table (length H) (length H₁) G (omega arith) p.goods);
         count = omega (arith, length-drop n es, p.count);
         goals_count = omega (arith, p.goals_count);
         paid = omega (arith, length-drop n es, p.paid, p.count);
         placed = λ y o. placed_on y (p.placed y o);
       }
 
-      pub posing-structure : Posing table S₀ (Structure f n ∷ ps) (H₁ ++ Node f n (length H) ∷ []) S₁ (Place (length H₁) ∷ drop n es) G
-      posing-structure =
-          let pushed = turned-push table H₁ S₁ (Node f n (length H)) t.stands (λ j q. omega (arith, q.1))
+      pub posing_structure : Posing table S₀ (Structure f n ∷ ps) (H₁ ++ Node f n (length H) ∷ []) S₁ (Place (length H₁) ∷ drop n es) G
+      posing_structure =
+          let pushed = turned_push table H₁ S₁ (Node f n (length H)) t.stands (λ j q. omega (arith, q.1))
           (λ g m b q. let eg : f ≡ g = cc in let em : n ≡ m = cc in (omega arith, ap (λ x. get_or table x 0) (sym eg) ∙ size ∙ em)) in
           let grow = length_push H₁ (Node f n (length H)) in
           record {
             turned = turned_then table Nothing (λ s ρ σ. Reads es G ps s ρ σ × Laid (length H) (λ j. get_or es j (Atom 0)) n s ρ σ) Nothing Nothing both (λ s n ρ σ d. tt) (λ s n ρ τ σ same h f e d. tt)
                 (λ s ρ σ. ρ (length H₁) ≡ node (s.name f) (span ρ (length H) n)) (Reads (Place (length H₁) ∷ drop n es) G (Structure f n ∷ ps)) pushed
-                (λ s names ρ σ h ft e d. (ap₂ cons (d ∙ ap (node (s.name f)) (args_are s ρ σ e.0 e.1)) (rest-are s ρ σ e.0), e.0.1));
-            sits = (omega (arith, grow), sits-all table (length S) (length S₁) (length H) (length (H₁ ++ Node f n (length H) ∷ [])) (drop n es) same (omega (arith, grow)) (all_drop (Sits table (length S) (length H)) n es p.sits));
-            goods = goods-more table (length H) (length (H₁ ++ Node f n (length H) ∷ [])) G (omega (arith, grow)) p.goods;
+                (λ s names ρ σ h ft e d. (ap₂ cons (d ∙ ap (node (s.name f)) (args_are s ρ σ e.0 e.1)) (rest_are s ρ σ e.0), e.0.1));
+            sits = (omega (arith, grow), sits_all table (length S) (length S₁) (length H) (length (H₁ ++ Node f n (length H) ∷ [])) (drop n es) same (omega (arith, grow)) (all_drop (Sits table (length S) (length H)) n es p.sits));
+            goods = goods_more table (length H) (length (H₁ ++ Node f n (length H) ∷ [])) G (omega (arith, grow)) p.goods;
             count = omega (arith, length-drop n es, p.count);
             goals_count = p.goals_count;
             paid = omega (arith, grow, length-drop n es, p.paid, p.count);
             placed = λ y o. elim (placed_on y (p.placed y o)) [ inl w ↦ inl (inr w) | inr h ↦ inr h ];
           }
 
-slot-arity : (x : Option ℕ) → arity (slot_cell x) ≡ 0
-slot-arity None = refl
-slot-arity (Some i) = refl
+slot_arity : (x : Option ℕ) → arity (slot_cell x) ≡ 0
+slot_arity None = refl
+slot_arity (Some i) = refl
 
-seated-arity : (S : Slots) (e : Entry) → arity (seated S e) ≡ 0
-seated-arity S (Atom c) = refl
-seated-arity S (Slot y) = slot-arity (get_or S y None)
-seated-arity S (Place i) = refl
+seated_arity : (S : Slots) (e : Entry) → arity (seated S e) ≡ 0
+seated_arity S (Atom c) = refl
+seated_arity S (Slot y) = slot_arity (get_or S y None)
+seated_arity S (Place i) = refl
 
 -- what becomes of the slots
-slot-keeps : (S : Slots) (y i : ℕ) (x : Option ℕ) → get_or S y None ≡ x → (z : ℕ) → Has S z → Has (slot_set x S y i) z
-slot-keeps S y i None e z h =
+slot_keeps : (S : Slots) (y i : ℕ) (x : Option ℕ) → get_or S y None ≡ x → (z : ℕ) → Has S z → Has (slot_set x S y i) z
+slot_keeps S y i None e z h =
     elim (ℕ_discrete z y) [
       | yes q ↦ (let n : get_or S z None ≡ None = ap (λ w. get_or S w None) q ∙ e in let s = h.1 in let c : ◌≡◌ {A = ℕ} 0 1 = cc in absurd (omega arith))
       | no ne ↦ (h.0, get_or-set_other S y z (Some i) None ne ∙ h.1)
     ]
-slot-keeps S y i (Some j) e z h = h
+slot_keeps S y i (Some j) e z h = h
 
-slot-gives : (S : Slots) (y i : ℕ) → y < length S → (x : Option ℕ) → get_or S y None ≡ x → Has (slot_set x S y i) y
-slot-gives S y i lt None e = (i, get_or-set_same S y (Some i) None lt)
-slot-gives S y i lt (Some j) e = (j, e)
+slot_gives : (S : Slots) (y i : ℕ) → y < length S → (x : Option ℕ) → get_or S y None ≡ x → Has (slot_set x S y i) y
+slot_gives S y i lt None e = (i, get_or-set_same S y (Some i) None lt)
+slot_gives S y i lt (Some j) e = (j, e)
 
-seat-keeps : (S : Slots) (e : Entry) (i z : ℕ) → Has S z → Has (seated_slots S e i) z
-seat-keeps S (Atom c) i z h = h
-seat-keeps S (Slot y) i z h = slot-keeps S y i (get_or S y None) refl z h
-seat-keeps S (Place j) i z h = h
+seat_keeps : (S : Slots) (e : Entry) (i z : ℕ) → Has S z → Has (seated_slots S e i) z
+seat_keeps S (Atom c) i z h = h
+seat_keeps S (Slot y) i z h = slot_keeps S y i (get_or S y None) refl z h
+seat_keeps S (Place j) i z h = h
 
-seat-gives : (table : List ℕ) (S : Slots) (e : Entry) (i n y : ℕ) → Sits table (length S) n e → e ≡ Slot y → Has (seated_slots S e i) y
-seat-gives table S (Atom c) i n y h q = let z : ◌≡◌ {A = ℕ} 0 1 = cc in absurd (omega arith)
-seat-gives table S (Slot z) i n y h q = let e : z ≡ y = cc in subst (Has (slot_set (get_or S z None) S z i)) e (slot-gives S z i h (get_or S z None) refl)
-seat-gives table S (Place j) i n y h q = let z : ◌≡◌ {A = ℕ} 0 1 = cc in absurd (omega arith)
+seat_gives : (table : List ℕ) (S : Slots) (e : Entry) (i n y : ℕ) → Sits table (length S) n e → e ≡ Slot y → Has (seated_slots S e i) y
+seat_gives table S (Atom c) i n y h q = let z : ◌≡◌ {A = ℕ} 0 1 = cc in absurd (omega arith)
+seat_gives table S (Slot z) i n y h q = let e : z ≡ y = cc in subst (Has (slot_set (get_or S z None) S z i)) e (slot_gives S z i h (get_or S z None) refl)
+seat_gives table S (Place j) i n y h q = let z : ◌≡◌ {A = ℕ} 0 1 = cc in absurd (omega arith)
 
 -- the loop over entries
 module _ (table : List ℕ) (H : Heap) (S : Slots) (en : ℕ → Entry) where
-  pub seating-none : (n : ℕ) → Fine H n → Stands table H S → Seating table H S en 0 H S
-  seating-none n fine st = record { turned = laid_none table H S en st; long = omega arith; spare = spare-none H n fine; kept = λ y h. h; given = λ j y l e. absurd (omega arith) }
+  pub seating_none : (n : ℕ) → Fine H n → Stands table H S → Seating table H S en 0 H S
+  seating_none n fine st = record { turned = laid_none table H S en st; long = omega arith; spare = spare_none H n fine; kept = λ y h. h; given = λ j y l e. absurd (omega arith) }
 
-  pub seating-more : (k : ℕ) (H₁ H₂ : Heap) (S₁ S₂ : Slots) (e : Entry) → e ≡ en k → length S₁ ≡ length S → Sits table (length S) (length H) (en k)
+  pub seating_more : (k : ℕ) (H₁ H₂ : Heap) (S₁ S₂ : Slots) (e : Entry) → e ≡ en k → length S₁ ≡ length S → Sits table (length S) (length H) (en k)
       → H₂ ≡ H₁ ++ seated S₁ e ∷ [] → S₂ ≡ seated_slots S₁ e (length H₁) → Seating table H S en k H₁ S₁ → Seating table H S en (k + 1) H₂ S₂
-  seating-more k H₁ H₂ S₁ S₂ e ee same sits eh es b =
-      let here : Sits table (length S₁) (length H₁) e = sits-more table (length S) (length S₁) (length H) (length H₁) e same b.turned.longer (subst (Sits table (length S) (length H)) (sym ee) sits) in
-      let one = turned-seated table H₁ S₁ e b.turned.stands here in
+  seating_more k H₁ H₂ S₁ S₂ e ee same sits eh es b =
+      let here : Sits table (length S₁) (length H₁) e = sits_more table (length S) (length S₁) (length H) (length H₁) e same b.turned.longer (subst (Sits table (length S) (length H)) (sym ee) sits) in
+      let one = turned_seated table H₁ S₁ e b.turned.stands here in
       record {
         turned = laid_more table en k b.long b.turned
             (subst (λ z. Turned table H₁ S₁ Nothing (λ s ρ σ. ρ (length H₁) ≡ term s ρ σ z) H₂ S₂) ee
             (subst (λ X. Turned table H₁ S₁ Nothing (λ s ρ σ. ρ (length H₁) ≡ term s ρ σ e) X S₂) (sym eh)
             (subst (λ X. Turned table H₁ S₁ Nothing (λ s ρ σ. ρ (length H₁) ≡ term s ρ σ e) (H₁ ++ seated S₁ e ∷ []) X) (sym es) one)));
         long = omega (arith, b.long, ap length eh, length_push H₁ (seated S₁ e));
-        spare = subst (λ X. Spare X (k + 1)) (sym eh) (spare-push H₁ (seated S₁ e) k (seated-arity S₁ e) b.spare);
-        kept = λ y h. subst (λ X. Has X y) (sym es) (seat-keeps S₁ e (length H₁) y (b.kept y h));
+        spare = subst (λ X. Spare X (k + 1)) (sym eh) (spare_push H₁ (seated S₁ e) k (seated_arity S₁ e) b.spare);
+        kept = λ y h. subst (λ X. Has X y) (sym es) (seat_keeps S₁ e (length H₁) y (b.kept y h));
         given = λ j y l q. subst (λ X. Has X y) (sym es) (elim (dec_lt j k) [
-          | yes lt ↦ seat-keeps S₁ e (length H₁) y (b.given j y lt q)
-          | no ge ↦ (let ej : k ≡ j = omega arith in seat-gives table S₁ e (length H₁) (length H₁) y here (ee ∙ ap en ej ∙ q))
+          | yes lt ↦ seat_keeps S₁ e (length H₁) y (b.given j y lt q)
+          | no ge ↦ (let ej : k ≡ j = omega arith in seat_gives table S₁ e (length H₁) (length H₁) y here (ee ∙ ap en ej ∙ q))
         ]);
       }
 
-  pub seating-sits : (k : ℕ) (H₁ : Heap) (S₁ : Slots) (e : Entry) → e ≡ en k → length S₁ ≡ length S → Sits table (length S) (length H) (en k) → Seating table H S en k H₁ S₁ → Sits table (length S₁) (length H₁) e
-  seating-sits k H₁ S₁ e ee same sits b = sits-more table (length S) (length S₁) (length H) (length H₁) e same b.turned.longer (subst (Sits table (length S) (length H)) (sym ee) sits)
+  pub seating_sits : (k : ℕ) (H₁ : Heap) (S₁ : Slots) (e : Entry) → e ≡ en k → length S₁ ≡ length S → Sits table (length S) (length H) (en k) → Seating table H S en k H₁ S₁ → Sits table (length S₁) (length H₁) e
+  seating_sits k H₁ S₁ e ee same sits b = sits_more table (length S) (length S₁) (length H) (length H₁) e same b.turned.longer (subst (Sits table (length S) (length H)) (sym ee) sits)

@@ -5,12 +5,12 @@ use Rattle.cells.specs.States.{Fine}
 use Rattle.cells.specs.Stores.{cells_of, bound_of}
 use Rattle.cells.specs.declared.store.Store.{Store}
 use Rattle.cells.proofs.Seals.{unsealed}
-use Rattle.cells.proofs.StateLaws.{fine-used, used-length}
+use Rattle.cells.proofs.StateLaws.{fine_used, used_length}
 
-pub store-fine : (s : Store) → Fine (cells_of s) (length (bound_of s))
-store-fine s = fine-used s.cells s.top s.trail (unsealed s.cells s.top s.trail s.sane)
+pub store_fine : (s : Store) → Fine (cells_of s) (length (bound_of s))
+store_fine s = fine_used s.cells s.top s.trail (unsealed s.cells s.top s.trail s.sane)
 
-pub store-few : (s : Store) → length (cells_of s) ≤ cell_limit
-store-few s =
+pub store_few : (s : Store) → length (cells_of s) ≤ cell_limit
+store_few s =
     let sane = unsealed s.cells s.top s.trail s.sane in
-    omega (arith, sane.within, used-length s.cells s.top s.trail sane)
+    omega (arith, sane.within, used_length s.cells s.top s.trail sane)

@@ -9,37 +9,37 @@ use Rattle.lines.specs.Words.{every, plain}
 use Rattle.prolog.specs.Prolog.{atom, term, others}
 use Rattle.prolog.specs.Puts.{TermPut, OthersPut}
 
-pub put-quoted : (o0 o1 o2 o3 f : List ℕ) → every plain f ≡ false → o1 ≡ o0 ++ 39 ∷ [] → o2 ≡ o1 ++ f → o3 ≡ o2 ++ 39 ∷ [] → o3 ≡ o0 ++ atom f
-put-quoted o0 o1 o2 o3 f e a b c =
+pub put_quoted : (o0 o1 o2 o3 f : List ℕ) → every plain f ≡ false → o1 ≡ o0 ++ 39 ∷ [] → o2 ≡ o1 ++ f → o3 ≡ o2 ++ 39 ∷ [] → o3 ≡ o0 ++ atom f
+put_quoted o0 o1 o2 o3 f e a b c =
     let same : ((o0 ++ 39 ∷ []) ++ f) ++ 39 ∷ [] ≡ o0 ++ 39 ∷ (f ++ 39 ∷ []) = simp append_assoc in
     c ∙ ap (λ o. o ++ 39 ∷ []) (b ∙ ap (λ o. o ++ f) a) ∙ same ∙ ap (λ x. o0 ++ x) (sym (cond-false (every plain f) f (39 ∷ (f ++ 39 ∷ [])) e))
 
 -- no word is left, so there is no term
-pub put-none : (ws rest : List Word) (o : List ℕ) → ws ≡ [] → TermPut ws rest o o
-put-none ws rest o e (var v) us h = let z : ◌≡◌ {A = ℕ} 0 1 = cc in absurd (omega arith)
-put-none ws rest o e (node f ts) us h = let z : ◌≡◌ {A = ℕ} 0 1 = cc in absurd (omega arith)
+pub put_none : (ws rest : List Word) (o : List ℕ) → ws ≡ [] → TermPut ws rest o o
+put_none ws rest o e (var v) us h = let z : ◌≡◌ {A = ℕ} 0 1 = cc in absurd (omega arith)
+put_none ws rest o e (node f ts) us h = let z : ◌≡◌ {A = ℕ} 0 1 = cc in absurd (omega arith)
 
-pub put-variable : (ws rest : List Word) (o0 o1 v : List ℕ) → ws ≡ variable v ∷ rest → o1 ≡ o0 ++ v → TermPut ws rest o0 o1
-put-variable ws rest o0 o1 v e p (var w) us h = let q : v ≡ w = cc in let r : rest ≡ us = cc in (p ∙ ap (λ x. o0 ++ x) q, r)
-put-variable ws rest o0 o1 v e p (node f nil) us h = let z : ◌≡◌ {A = ℕ} 0 1 = cc in absurd (omega arith)
-put-variable ws rest o0 o1 v e p (node f (cons t ts)) us h = let z : ◌≡◌ {A = ℕ} 0 1 = cc in absurd (omega arith)
+pub put_variable_lem : (ws rest : List Word) (o0 o1 v : List ℕ) → ws ≡ variable v ∷ rest → o1 ≡ o0 ++ v → TermPut ws rest o0 o1
+put_variable_lem ws rest o0 o1 v e p (var w) us h = let q : v ≡ w = cc in let r : rest ≡ us = cc in (p ∙ ap (λ x. o0 ++ x) q, r)
+put_variable_lem ws rest o0 o1 v e p (node f nil) us h = let z : ◌≡◌ {A = ℕ} 0 1 = cc in absurd (omega arith)
+put_variable_lem ws rest o0 o1 v e p (node f (cons t ts)) us h = let z : ◌≡◌ {A = ℕ} 0 1 = cc in absurd (omega arith)
 
-pub put-name : (ws rest : List Word) (o0 o1 f : List ℕ) → ws ≡ name f ∷ rest → o1 ≡ o0 ++ atom f → TermPut ws rest o0 o1
-put-name ws rest o0 o1 f e p (var w) us h = let z : ◌≡◌ {A = ℕ} 0 1 = cc in absurd (omega arith)
-put-name ws rest o0 o1 f e p (node g nil) us h =
+pub put_name_lem : (ws rest : List Word) (o0 o1 f : List ℕ) → ws ≡ name f ∷ rest → o1 ≡ o0 ++ atom f → TermPut ws rest o0 o1
+put_name_lem ws rest o0 o1 f e p (var w) us h = let z : ◌≡◌ {A = ℕ} 0 1 = cc in absurd (omega arith)
+put_name_lem ws rest o0 o1 f e p (node g nil) us h =
     let q : f ≡ g = cc in
     let r : rest ≡ us = cc in
     (p ∙ ap (λ x. o0 ++ atom x) q ∙ ap (λ x. o0 ++ x) (sym (append-nil (atom g))), r)
-put-name ws rest o0 o1 f e p (node g (cons t ts)) us h = let z : ◌≡◌ {A = ℕ} 0 1 = cc in absurd (omega arith)
+put_name_lem ws rest o0 o1 f e p (node g (cons t ts)) us h = let z : ◌≡◌ {A = ℕ} 0 1 = cc in absurd (omega arith)
 
 -- a name, its first argument and the others, in parentheses
 module _ (ws r0 r1 r2 : List Word) (o0 o1 o2 o3 o4 o5 f : List ℕ) (n : ℕ)
     (is : ws ≡ structure f n ∷ r0) (named : o1 ≡ o0 ++ atom f) (opened : o2 ≡ o1 ++ 40 ∷ [])
     (first : TermPut r0 r1 o2 o3) (more : OthersPut n r1 r2 o3 o4) (closed : o5 ≡ o4 ++ 41 ∷ []) where
-  pub put-structure : TermPut ws r2 o0 o5
-  put-structure (var w) us h = let z : ◌≡◌ {A = ℕ} 0 1 = cc in absurd (omega arith)
-  put-structure (node g nil) us h = let z : ◌≡◌ {A = ℕ} 0 1 = cc in absurd (omega arith)
-  put-structure (node g (cons t ts)) us h =
+  pub put_structure_lem : TermPut ws r2 o0 o5
+  put_structure_lem (var w) us h = let z : ◌≡◌ {A = ℕ} 0 1 = cc in absurd (omega arith)
+  put_structure_lem (node g nil) us h = let z : ◌≡◌ {A = ℕ} 0 1 = cc in absurd (omega arith)
+  put_structure_lem (node g (cons t ts)) us h =
       let q : f ≡ g = cc in
       let size : n ≡ suc (count ts) = cc in
       let tokens : r0 ≡ words t (wordss ts us) = cc in

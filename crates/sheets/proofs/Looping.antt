@@ -10,7 +10,7 @@ use Rattle.horn.specs.Search.{Moves, Placed, Passing, child}
 use Rattle.horn.specs.Transcript.{Prints, halt}
 use Rattle.sheets.specs.Worked.{ample, scant}
 use Rattle.sheets.proofs.Cases.{constant, again, loops, looping}
-use Rattle.horn.proofs.Following.{known, knowing, follow-append, grows}
+use Rattle.horn.proofs.Following.{known, knowing, follow_append, grows}
 use Rattle.horn.proofs.Placing.{moves}
 
 -- the path of k ones
@@ -38,7 +38,7 @@ once_more p l =
     record {
       at = taking l.at g nil again;
       argument = var (l.at.entries + 1, named (codes "X"));
-      is = follow-append loops p (1 ∷ []) (Some (asked looping)) ∙ ap (follow loops (1 ∷ [])) l.is ∙ ap (λ gs. follow loops [] (taken l.at gs (Some again))) l.goal;
+      is = follow_append loops p (1 ∷ []) (Some (asked looping)) ∙ ap (follow loops (1 ∷ [])) l.is ∙ ap (λ gs. follow loops [] (taken l.at gs (Some again))) l.goal;
       goal = refl;
       value = refl;
       solved = (ap (λ x. node (codes "n") (cons x nil)) l.value, l.solved);
@@ -49,19 +49,19 @@ unfolding ρ ones
 looped zero = record { at = asked looping; argument = constant (codes "a"); is = refl; goal = refl; value = refl; solved = tt }
 looped (suc k) = once_more (ones k) (looped k)
 
-weight-more : (p : Path) → clauses_weight loops (child p 1) ≡ clauses_weight loops p + 3
-weight-more [] = refl
-weight-more (c ∷ p) = omega (arith, weight-more p)
+weight_more : (p : Path) → clauses_weight loops (child p 1) ≡ clauses_weight loops p + 3
+weight_more [] = refl
+weight_more (c ∷ p) = omega (arith, weight_more p)
 
-weight-ones : (k : ℕ) → clauses_weight loops (ones k) ≡ 3 * k
+weight_ones : (k : ℕ) → clauses_weight loops (ones k) ≡ 3 * k
 unfolding ones
-weight-ones zero = refl
-weight-ones (suc k) = omega (arith, weight-more (ones k), weight-ones k)
+weight_ones zero = refl
+weight_ones (suc k) = omega (arith, weight_more (ones k), weight_ones k)
 
-length-ones : (k : ℕ) → length (ones k) ≡ k
+length_ones : (k : ℕ) → length (ones k) ≡ k
 unfolding ones
-length-ones zero = refl
-length-ones (suc k) = omega (arith, length-append (ones k) (1 ∷ []), length-ones k)
+length_ones zero = refl
+length_ones (suc k) = omega (arith, length-append (ones k) (1 ∷ []), length_ones k)
 
 module _ (fuel : ℕ) where
   m : Moves (deck_tree loops looping) fuel
@@ -88,11 +88,11 @@ module _ (fuel : ℕ) where
   reached (suc k) a b =
       subst (λ s. Placed (deck_tree loops looping) fuel (ones (suc k)) 0 0 s) {x = k + 1} (omega arith)
       (m.enter (ones k) 0 1 0 k (passing k (reached k (omega arith) (omega arith)))
-      (record { fueled = omega arith; short = omega (arith, length-ones (suc k)); light = omega (arith, weight-ones (suc k)) }) (goes_on (suc k)))
+      (record { fueled = omega arith; short = omega (arith, length_ones (suc k)); light = omega (arith, weight_ones (suc k)) }) (goes_on (suc k)))
 
 pub endless : Prints loops looping ample 0 (codes "H,22,0,256" ∷ [])
 unfolding ones digits
-endless = halt 22 256 ((m ample).halt_length (ones 256) 0 1 0 256 (passing ample 256 (reached ample 256 (lit≤ tt) (lit≤ tt))) (lit< tt) (omega (arith, length-ones 257)))
+endless = halt 22 256 ((m ample).halt_length (ones 256) 0 1 0 256 (passing ample 256 (reached ample 256 (lit≤ tt) (lit≤ tt))) (lit< tt) (omega (arith, length_ones 257)))
 
 pub short : Prints loops looping scant 0 (codes "H,21,0,256" ∷ [])
 unfolding digits

@@ -14,8 +14,8 @@ use Rattle.lines.specs.Clauses.{read_query}
 use Rattle.sheets.specs.Sheets.{deck_of, Printed}
 use Rattle.sheets.specs.Worked.{Worked, ample}
 use Rattle.sheets.proofs.Cases.{constant, pairs, pairing, nested, twin, doubled, single, every, both, loops, looping}
-use Rattle.horn.proofs.TermLaws.{evals-off}
-use Rattle.horn.proofs.Following.{grows, past-last, no-goals}
+use Rattle.horn.proofs.TermLaws.{evals_off}
+use Rattle.horn.proofs.Following.{grows, past_last, no_goals}
 use Rattle.horn.proofs.Placing.{moves}
 use Rattle.sheets.proofs.Looping.{endless, short}
 
@@ -28,8 +28,8 @@ following : (t : Tree) (here : List ℕ) (c : ℕ) → Next t here c (c + 1)
 following t here c = (omega arith, λ d lo hi w. omega arith)
 
 -- an instance, by the query's terms
-by-terms : (q : Query) (θ σ : Values) (ρ : ℕ → Term ℕ) → evals q σ ≡ evals q (λ v. eval (θ v) ρ) → Instance q θ σ
-by-terms q θ σ ρ e = (ρ, evals-off q σ (λ v. eval (θ v) ρ) e)
+by_terms : (q : Query) (θ σ : Values) (ρ : ℕ → Term ℕ) → evals q σ ≡ evals q (λ v. eval (θ v) ρ) → Instance q θ σ
+by_terms q θ σ ρ e = (ρ, evals_off q σ (λ v. eval (θ v) ρ) e)
 
 -- values for some names, and any other variable as it is
 abbrev binds : List (Name × Term ℕ) → Values
@@ -45,12 +45,12 @@ repeated =
     let θ : Values = λ v. constant (codes "a") in
     let ρ : Valuation = λ v. constant (codes "a") in
     let one = m.hit [] 0 1 0 0 (record { placed = m.start; next = (following t [] 0); passes = (ρ, (refl, tt)) }) (record { fueled = lit< tt; short = lit≤ tt; light = lit≤ tt }) (ρ, (refl, tt), refl) in
-    let back₁ = m.back [] 1 0 1 1 one.0 (no-goals doubled single (1 ∷ []) 0 _ refl refl) in
+    let back₁ = m.back [] 1 0 1 1 one.0 (no_goals doubled single (1 ∷ []) 0 _ refl refl) in
     let two = m.hit [] 1 2 1 1 (record { placed = back₁; next = (following t [] 1); passes = (ρ, (refl, tt)) }) (record { fueled = lit< tt; short = lit≤ tt; light = lit≤ tt }) (ρ, (refl, tt), refl) in
-    let back₂ = m.back [] 2 0 2 2 two.0 (no-goals doubled single (2 ∷ []) 0 _ refl refl) in
-    let over = m.finish 2 2 2 back₂ (past-last doubled single [] 2 (lit≤ tt)) in
-    answer (1 ∷ []) 1 one.1 (θ, record { solves = (ρ, (refl, tt), λ v. refl); general = λ σ k. by-terms single θ σ var (let e = k.1.0 in let x = k.2 (named (codes "X")) in cc) }, refl)
-    (answer (2 ∷ []) 2 two.1 (θ, record { solves = (ρ, (refl, tt), λ v. refl); general = λ σ k. by-terms single θ σ var (let e = k.1.0 in let x = k.2 (named (codes "X")) in cc) }, refl)
+    let back₂ = m.back [] 2 0 2 2 two.0 (no_goals doubled single (2 ∷ []) 0 _ refl refl) in
+    let over = m.finish 2 2 2 back₂ (past_last doubled single [] 2 (lit≤ tt)) in
+    answer (1 ∷ []) 1 one.1 (θ, record { solves = (ρ, (refl, tt), λ v. refl); general = λ σ k. by_terms single θ σ var (let e = k.1.0 in let x = k.2 (named (codes "X")) in cc) }, refl)
+    (answer (2 ∷ []) 2 two.1 (θ, record { solves = (ρ, (refl, tt), λ v. refl); general = λ σ k. by_terms single θ σ var (let e = k.1.0 in let x = k.2 (named (codes "X")) in cc) }, refl)
     (end 2 over))
 
 -- a term is no part of itself
@@ -73,7 +73,7 @@ infinite =
     let x : Term ℕ = w.0 (1, named (codes "X")) in
     let f : x ≡ node (codes "f") (cons x nil) = cc in
     omega (arith, ap size f)) in
-    end 0 (m.finish 1 0 0 failed (past-last nested twin [] 1 (lit≤ tt)))
+    end 0 (m.finish 1 0 0 failed (past_last nested twin [] 1 (lit≤ tt)))
 
 unbound : Prints every both ample 0 (codes "A,1,B,_1" ∷ codes "N,1,1" ∷ [])
 unfolding digits
@@ -84,9 +84,9 @@ unbound =
     let B : Variable = named (codes "B") in
     let ρ : Valuation = λ v. cond (eqb v.0 0) (var 0) (node (codes "f") (cons (var 0) (cons (var 0) nil))) in
     let one = m.hit [] 0 1 0 0 (record { placed = m.start; next = (following t [] 0); passes = (ρ, (refl, tt)) }) (record { fueled = lit< tt; short = lit≤ tt; light = lit≤ tt }) (ρ, (refl, tt), refl) in
-    let back₁ = m.back [] 1 0 1 1 one.0 (no-goals every both (1 ∷ []) 0 _ refl refl) in
-    let over = m.finish 1 1 1 back₁ (past-last every both [] 1 (lit≤ tt)) in
-    answer (1 ∷ []) 1 one.1 (θ, record { solves = (ρ, (refl, tt), λ v. refl); general = λ σ k. by-terms both θ σ (λ x. σ B) refl }, refl)
+    let back₁ = m.back [] 1 0 1 1 one.0 (no_goals every both (1 ∷ []) 0 _ refl refl) in
+    let over = m.finish 1 1 1 back₁ (past_last every both [] 1 (lit≤ tt)) in
+    answer (1 ∷ []) 1 one.1 (θ, record { solves = (ρ, (refl, tt), λ v. refl); general = λ σ k. by_terms both θ σ (λ x. σ B) refl }, refl)
     (end 1 over)
 
 -- the letter and its half form
@@ -110,17 +110,17 @@ ligatures =
     let s₂ = m.fail [] 1 2 0 0 s₁ (following t [] 1) (λ w. w) in
     let s₃ = m.enter [] 2 3 0 0 (record { placed = s₂; next = (following t [] 2); passes = (ka, (refl, tt)) }) (record { fueled = lit< tt; short = lit≤ tt; light = lit≤ tt }) (λ w. let e = w.2 in let z : ◌≡◌ {A = ℕ} 0 1 = cc in omega arith) in
     let one = m.hit (3 ∷ []) 0 1 0 1 (record { placed = s₃; next = (following t (3 ∷ []) 0); passes = (ka, (refl, (refl, tt))) }) (record { fueled = lit< tt; short = lit≤ tt; light = lit≤ tt }) (ka, (refl, (refl, tt)), refl) in
-    let s₄ = m.back (3 ∷ []) 1 0 1 2 one.0 (no-goals pairs pairing (3 ∷ 1 ∷ []) 0 _ refl refl) in
+    let s₄ = m.back (3 ∷ []) 1 0 1 2 one.0 (no_goals pairs pairing (3 ∷ 1 ∷ []) 0 _ refl refl) in
     let two = m.hit (3 ∷ []) 1 2 1 2 (record { placed = s₄; next = (following t (3 ∷ []) 1); passes = (ta, (refl, (refl, tt))) }) (record { fueled = lit< tt; short = lit≤ tt; light = lit≤ tt }) (ta, (refl, (refl, tt)), refl) in
-    let s₅ = m.back (3 ∷ []) 2 0 2 3 two.0 (no-goals pairs pairing (3 ∷ 2 ∷ []) 0 _ refl refl) in
+    let s₅ = m.back (3 ∷ []) 2 0 2 3 two.0 (no_goals pairs pairing (3 ∷ 2 ∷ []) 0 _ refl refl) in
     let s₆ = m.fail (3 ∷ []) 2 3 2 3 s₅ (following t (3 ∷ []) 2) (λ w. w) in
-    let s₇ = m.back [] 3 3 2 3 s₆ (past-last pairs pairing (3 ∷ []) 3 (lit≤ tt)) in
-    let over = m.finish 3 2 3 s₇ (past-last pairs pairing [] 3 (lit≤ tt)) in
+    let s₇ = m.back [] 3 3 2 3 s₆ (past_last pairs pairing (3 ∷ []) 3 (lit≤ tt)) in
+    let over = m.finish 3 2 3 s₇ (past_last pairs pairing [] 3 (lit≤ tt)) in
     answer (3 ∷ 1 ∷ []) 2 one.1 (
       answered (codes "ka") (codes "ka.half"),
       record {
         solves = (ka, (refl, (refl, tt)), λ v. refl);
-        general = λ σ k. by-terms pairing (answered (codes "ka") (codes "ka.half")) σ var (let e = k.1.0 in let f = k.1.1.0 in let g = k.2 G in let l = k.2 L in cc);
+        general = λ σ k. by_terms pairing (answered (codes "ka") (codes "ka.half")) σ var (let e = k.1.0 in let f = k.1.1.0 in let g = k.2 G in let l = k.2 L in cc);
       },
       refl,
     )
@@ -128,7 +128,7 @@ ligatures =
       answered (codes "ta") (codes "ta.half"),
       record {
         solves = (ta, (refl, (refl, tt)), λ v. refl);
-        general = λ σ k. by-terms pairing (answered (codes "ta") (codes "ta.half")) σ var (let e = k.1.0 in let f = k.1.1.0 in let g = k.2 G in let l = k.2 L in cc);
+        general = λ σ k. by_terms pairing (answered (codes "ta") (codes "ta.half")) σ var (let e = k.1.0 in let f = k.1.1.0 in let g = k.2 G in let l = k.2 L in cc);
       },
       refl,
     )

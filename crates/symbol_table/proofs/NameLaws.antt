@@ -7,15 +7,15 @@ use Rattle.horn.specs.Terms.{Name}
 use Rattle.symbol_table.specs.Symbols.{Symbol, Signature, symbol_at, name_at, arity_at}
 use Rattle.horn.specs.Equations.{same_name}
 use Rattle.symbol_table.specs.Numbers.{is_symbol, number_in, found, note_symbol}
-use Rattle.symbol_table.proofs.SymbolLaws.{up_to-long}
+use Rattle.symbol_table.proofs.SymbolLaws.{up_to_long}
 use Rattle.symbol_table.specs.Tables.{up_to}
-use Rattle.symbol_table.proofs.NumberLaws.{name-same, number_is, number-first, same-name}
+use Rattle.symbol_table.proofs.NumberLaws.{name_same, number_is, number_first, same_name_lem}
 
-pub same-lengths : (xs ys : Name) → (length xs ≡ length ys → ⊥) → same_name xs ys ≡ false
-same-lengths [] [] h = absurd (h refl)
-same-lengths [] (y ∷ ys) h = refl
-same-lengths (x ∷ xs) [] h = refl
-same-lengths (x ∷ xs) (y ∷ ys) h = go (same-lengths xs ys (λ e. h (ap suc e))) (eqb x y)
+pub same_lengths : (xs ys : Name) → (length xs ≡ length ys → ⊥) → same_name xs ys ≡ false
+same_lengths [] [] h = absurd (h refl)
+same_lengths [] (y ∷ ys) h = refl
+same_lengths (x ∷ xs) [] h = refl
+same_lengths (x ∷ xs) (y ∷ ys) h = go (same_lengths xs ys (λ e. h (ap suc e))) (eqb x y)
   where
     go : same_name xs ys ≡ false → (t : Bool) → (t && same_name xs ys) ≡ false
     go ih true = ih
@@ -30,19 +30,19 @@ same_turn xs ys i t h k e =
 pub same_end : (xs ys : Name) (i : ℕ) → length xs ≤ i → length ys ≤ i → same_name (drop i xs) (drop i ys) ≡ true
 same_end xs ys i h k = at_drop_all (λ l. same_name l (drop i ys)) xs i h ∙ at_drop_all (same_name []) ys i k
 
-pub name-turn : (out name : List ℕ) (at i : ℕ) → i < length name → at + i < length out → take i (drop at out) ≡ take i name → take (i + 1) (drop at (set out (at + i) (get_or name i 0))) ≡ take (i + 1) name
-name-turn out name at i lt room was =
+pub name_turn : (out name : List ℕ) (at i : ℕ) → i < length name → at + i < length out → take i (drop at out) ≡ take i name → take (i + 1) (drop at (set out (at + i) (get_or name i 0))) ≡ take (i + 1) name
+name_turn out name at i lt room was =
     ap (take (i + 1)) (drop-set-add at out i (get_or name i 0)) ∙ ap (λ k. take k (set (drop at out) i (get_or name i 0))) (add-one i)
     ∙ take-suc-set (drop at out) i (get_or name i 0) (omega (arith, length-drop at out)) ∙ ap (λ l. l ++ get_or name i 0 ∷ []) was ∙ sym (take_more name i 0 lt)
 
 -- what stands before a place is as it was
-pub kept-before : (xs ys : List ℕ) (at j m : ℕ) → take at xs ≡ take at ys → j + m ≤ at → take m (drop j xs) ≡ take m (drop j ys)
-kept-before xs ys at j m e h =
+pub kept_before : (xs ys : List ℕ) (at j m : ℕ) → take at xs ≡ take at ys → j + m ≤ at → take m (drop j xs) ≡ take m (drop j ys)
+kept_before xs ys at j m e h =
     sym (drop-take j m xs) ∙ ap (drop j) (sym (take-take (j + m) at xs h) ∙ ap (take (j + m)) e ∙ take-take (j + m) at ys h) ∙ drop-take j m ys
 
-pub up_to-same : {X : Type 0} (n : ℕ) (f g : ℕ → X) → ((k : ℕ) → k < n → f k ≡ g k) → up_to n f ≡ up_to n g
-up_to-same zero f g h = refl
-up_to-same (suc n) f g h = ap₂ (λ l x. l ++ x ∷ []) (up_to-same n f g (λ k lt. h k (omega arith))) (h n (omega arith))
+pub up_to_same : {X : Type 0} (n : ℕ) (f g : ℕ → X) → ((k : ℕ) → k < n → f k ≡ g k) → up_to n f ≡ up_to n g
+up_to_same zero f g h = refl
+up_to_same (suc n) f g h = ap₂ (λ l x. l ++ x ∷ []) (up_to_same n f g (λ k lt. h k (omega arith))) (h n (omega arith))
 
 -- looking for a symbol
 module _ (sig : Signature) (f : Name) (n k : ℕ) (low : k ≤ number_in sig f n) (lt : k < length sig) where
@@ -52,21 +52,21 @@ module _ (sig : Signature) (f : Name) (n k : ℕ) (low : k ≤ number_in sig f n
         | inl q ↦
             (let is = number_is sig f n (omega arith) in
             let alike : is_symbol (symbol_at sig k) f n ≡ true =
-            and_from _ _ (subst (λ g. same_name g f ≡ true) (sym (ap (name_at sig) q ∙ is.0)) (name-same f)) (eq-eqb (arity_at sig k) n (ap (arity_at sig) q ∙ is.1)) in
+            and_from _ _ (subst (λ g. same_name g f ≡ true) (sym (ap (name_at sig) q ∙ is.0)) (name_same f)) (eq-eqb (arity_at sig k) n (ap (arity_at sig) q ∙ is.1)) in
             let z : true ≡ false = sym alike ∙ differs in
             let w : ◌≡◌ {A = ℕ} 0 1 = cc in absurd (omega arith))
         | inr ne ↦ (let z : (k ≡ number_in sig f n → ⊥) = ne in omega arith)
       ]
 
-  pub number-here : is_symbol (symbol_at sig k) f n ≡ true → found sig f n ≡ Some k
-  number-here alike =
+  pub number_here : is_symbol (symbol_at sig k) f n ≡ true → found sig f n ≡ Some k
+  number_here alike =
       let p = and_parts (same_name (name_at sig k) f) (eqb (arity_at sig k) n) alike in
-      let first = number-first sig f n k (same-name (name_at sig k) f p.0) (eqb-true (arity_at sig k) n p.1) lt in
+      let first = number_first sig f n k (same_name_lem (name_at sig k) f p.0) (eqb-true (arity_at sig k) n p.1) lt in
       let e : number_in sig f n ≡ k = omega arith in
       cond-true (ltb (number_in sig f n) (length sig)) (Some (number_in sig f n)) None (lt-ltb (number_in sig f n) (length sig) (omega arith)) ∙ ap Some e
 
-pub number-none : (sig : Signature) (f : Name) (n : ℕ) → length sig ≤ number_in sig f n → found sig f n ≡ None
-number-none sig f n h = cond-false (ltb (number_in sig f n) (length sig)) (Some (number_in sig f n)) None (le-ltb (number_in sig f n) (length sig) h)
+pub number_none : (sig : Signature) (f : Name) (n : ℕ) → length sig ≤ number_in sig f n → found sig f n ≡ None
+number_none sig f n h = cond-false (ltb (number_in sig f n) (length sig)) (Some (number_in sig f n)) None (le-ltb (number_in sig f n) (length sig) h)
 
 -- arrays with small numbers
 pub zeros : (n m k : ℕ) → get_or (replicate n 0) k 0 ≤ m
@@ -85,42 +85,42 @@ set_below (x ∷ xs) (suc i) v m h l (suc k) = set_below xs i v m (λ j. h (suc 
 abbrev entry : List ℕ → List ℕ → List ℕ → ℕ → Symbol
 entry bytes lens arities k = record { name = take (get_or lens k 0) (drop (31 * k) bytes); arity = get_or arities k 0 }
 
-symbol-of : (f g : Name) (a b : ℕ) → f ≡ g → a ≡ b → ◌≡◌ {A = Symbol} (record { name = f; arity = a }) (record { name = g; arity = b })
-symbol-of f g a b p q = ap₂ (λ x y. record { name = x; arity = y }) p q
+symbol_of_lem : (f g : Name) (a b : ℕ) → f ≡ g → a ≡ b → ◌≡◌ {A = Symbol} (record { name = f; arity = a }) (record { name = g; arity = b })
+symbol_of_lem f g a b p q = ap₂ (λ x y. record { name = x; arity = y }) p q
 
-pub symbol-more : (bytes bytes' lens arities : List ℕ) (k : ℕ) (name : Name) (a : ℕ) → k < length lens → k < length arities → take (31 * k) bytes' ≡ take (31 * k) bytes → take (length name) (drop (31 * k) bytes') ≡ name
+pub symbol_more : (bytes bytes' lens arities : List ℕ) (k : ℕ) (name : Name) (a : ℕ) → k < length lens → k < length arities → take (31 * k) bytes' ≡ take (31 * k) bytes → take (length name) (drop (31 * k) bytes') ≡ name
     → ((j : ℕ) → get_or lens j 0 ≤ 31)
     → up_to (k + 1) (entry bytes' (set lens k (length name)) (set arities k a)) ≡ up_to k (entry bytes lens arities) ++ record { name = name; arity = a } ∷ []
-symbol-more bytes bytes' lens arities k name a lk ak kept new short =
+symbol_more bytes bytes' lens arities k name a lk ak kept new short =
     ap (λ n. up_to n (entry bytes' (set lens k (length name)) (set arities k a))) (add-one k)
     ∙ ap₂ (λ l x. l ++ x ∷ [])
-    (up_to-same k (entry bytes' (set lens k (length name)) (set arities k a)) (entry bytes lens arities) (λ j lt.
+    (up_to_same k (entry bytes' (set lens k (length name)) (set arities k a)) (entry bytes lens arities) (λ j lt.
     (let ne : j ≢ k = λ q. omega arith in
-    symbol-of _ _ _ _
-    (ap (λ m. take m (drop (31 * j) bytes')) (get_or-set_other lens k j (length name) 0 ne) ∙ kept-before bytes' bytes (31 * k) (31 * j) (get_or lens j 0) kept (omega (arith, short j)))
+    symbol_of_lem _ _ _ _
+    (ap (λ m. take m (drop (31 * j) bytes')) (get_or-set_other lens k j (length name) 0 ne) ∙ kept_before bytes' bytes (31 * k) (31 * j) (get_or lens j 0) kept (omega (arith, short j)))
     (get_or-set_other arities k j a 0 ne))))
-    (symbol-of _ _ _ _ (ap (λ m. take m (drop (31 * k) bytes')) (get_or-set_same lens k (length name) 0 lk) ∙ new) (get_or-set_same arities k a 0 ak))
+    (symbol_of_lem _ _ _ _ (ap (λ m. take m (drop (31 * k) bytes')) (get_or-set_same lens k (length name) 0 lk) ∙ new) (get_or-set_same arities k a 0 ak))
 
 -- the first of the values
-pub up_to-take : {X : Type 0} (m n : ℕ) (f : ℕ → X) → m ≤ n → take m (up_to n f) ≡ up_to m f
-up_to-take m zero f h = let z : m ≡ 0 = omega arith in ap (λ k. take k (up_to 0 f)) z ∙ ap (λ k. up_to k f) (sym z)
-up_to-take m (suc n) f h =
+pub up_to_take : {X : Type 0} (m n : ℕ) (f : ℕ → X) → m ≤ n → take m (up_to n f) ≡ up_to m f
+up_to_take m zero f h = let z : m ≡ 0 = omega arith in ap (λ k. take k (up_to 0 f)) z ∙ ap (λ k. up_to k f) (sym z)
+up_to_take m (suc n) f h =
     elim (cases_eq m (suc n)) [
-      | inl q ↦ ap (λ k. take k (up_to (suc n) f)) q ∙ take_all (suc n) (up_to (suc n) f) (omega (arith, up_to-long (suc n) f)) ∙ ap (λ k. up_to k f) (sym q)
-      | inr ne ↦ (let l : m ≤ n = (let z : (m ≡ suc n → ⊥) = ne in omega arith) in take-append-le m (up_to n f) (f n ∷ []) (omega (arith, up_to-long n f)) ∙ up_to-take m n f l)
+      | inl q ↦ ap (λ k. take k (up_to (suc n) f)) q ∙ take_all (suc n) (up_to (suc n) f) (omega (arith, up_to_long (suc n) f)) ∙ ap (λ k. up_to k f) (sym q)
+      | inr ne ↦ (let l : m ≤ n = (let z : (m ≡ suc n → ⊥) = ne in omega arith) in take-append-le m (up_to n f) (f n ∷ []) (omega (arith, up_to_long n f)) ∙ up_to_take m n f l)
     ]
 
 -- noting a symbol that was found, and one that was not
 module _ (sig : Signature) (f : Name) (n : ℕ) where
-  pub note-found : (k : ℕ) → Some k ≡ found sig f n → sig ≡ note_symbol sig f n
-  note-found k h = go (ltb (number_in sig f n) (length sig)) h
+  pub note_found : (k : ℕ) → Some k ≡ found sig f n → sig ≡ note_symbol sig f n
+  note_found k h = go (ltb (number_in sig f n) (length sig)) h
     where
       go : (t : Bool) → Some k ≡ cond t (Some (number_in sig f n)) None → sig ≡ cond t sig (sig ++ record { name = f; arity = n } ∷ [])
       go true q = refl
       go false q = let z : ◌≡◌ {A = ℕ} 0 1 = cc in absurd (omega arith)
 
-  pub note-new : None ≡ found sig f n → sig ++ record { name = f; arity = n } ∷ [] ≡ note_symbol sig f n
-  note-new h = go (ltb (number_in sig f n) (length sig)) h
+  pub note_new : None ≡ found sig f n → sig ++ record { name = f; arity = n } ∷ [] ≡ note_symbol sig f n
+  note_new h = go (ltb (number_in sig f n) (length sig)) h
     where
       go : (t : Bool) → None ≡ cond t (Some (number_in sig f n)) None → sig ++ record { name = f; arity = n } ∷ [] ≡ cond t sig (sig ++ record { name = f; arity = n } ∷ [])
       go true q = let z : ◌≡◌ {A = ℕ} 0 1 = cc in absurd (omega arith)

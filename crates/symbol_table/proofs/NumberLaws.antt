@@ -8,15 +8,15 @@ use Rattle.symbol_table.specs.Symbols.{Signature, name_at, arity_at}
 use Rattle.horn.specs.Equations.{same_name}
 use Rattle.symbol_table.specs.Numbers.{is_symbol, number_in, found, known_variable, names_of, blanks_in, number_of, noted}
 
-pub same-name : (a b : Name) → same_name a b ≡ true → a ≡ b
-same-name [] [] h = refl
-same-name [] (y ∷ ys) h = let z : ◌≡◌ {A = ℕ} 0 1 = cc in absurd (omega arith)
-same-name (x ∷ xs) [] h = let z : ◌≡◌ {A = ℕ} 0 1 = cc in absurd (omega arith)
-same-name (x ∷ xs) (y ∷ ys) h = let p = and_parts (eqb x y) (same_name xs ys) h in ap₂ ◌∷◌ (eqb-true x y p.0) (same-name xs ys p.1)
+pub same_name_lem : (a b : Name) → same_name a b ≡ true → a ≡ b
+same_name_lem [] [] h = refl
+same_name_lem [] (y ∷ ys) h = let z : ◌≡◌ {A = ℕ} 0 1 = cc in absurd (omega arith)
+same_name_lem (x ∷ xs) [] h = let z : ◌≡◌ {A = ℕ} 0 1 = cc in absurd (omega arith)
+same_name_lem (x ∷ xs) (y ∷ ys) h = let p = and_parts (eqb x y) (same_name xs ys) h in ap₂ ◌∷◌ (eqb-true x y p.0) (same_name_lem xs ys p.1)
 
-pub name-same : (a : Name) → same_name a a ≡ true
-name-same [] = refl
-name-same (x ∷ xs) = and_from _ _ (eq-eqb x x refl) (name-same xs)
+pub name_same : (a : Name) → same_name a a ≡ true
+name_same [] = refl
+name_same (x ∷ xs) = and_from _ _ (eq-eqb x x refl) (name_same xs)
 
 -- the symbol with that number has that name and arity
 pub number_is : (sig : Signature) (f : Name) (n : ℕ) → number_in sig f n < length sig → (name_at sig (number_in sig f n) ≡ f) × (arity_at sig (number_in sig f n) ≡ n)
@@ -25,24 +25,24 @@ number_is (s ∷ sig) f n h = go (number_is sig f n) (is_symbol s f n) refl h
   where
     go : (number_in sig f n < length sig → (name_at sig (number_in sig f n) ≡ f) × (arity_at sig (number_in sig f n) ≡ n)) → (t : Bool) → is_symbol s f n ≡ t → cond t 0 (suc (number_in sig f n)) < suc (length sig)
         → (name_at (s ∷ sig) (cond t 0 (suc (number_in sig f n))) ≡ f) × (arity_at (s ∷ sig) (cond t 0 (suc (number_in sig f n))) ≡ n)
-    go ih true e h = let p = and_parts (same_name s.name f) (eqb s.arity n) e in (same-name s.name f p.0, eqb-true s.arity n p.1)
+    go ih true e h = let p = and_parts (same_name s.name f) (eqb s.arity n) e in (same_name_lem s.name f p.0, eqb-true s.arity n p.1)
     go ih false e h = ih (omega arith)
 
 -- and none before it has
-pub number-first : (sig : Signature) (f : Name) (n k : ℕ) → name_at sig k ≡ f → arity_at sig k ≡ n → k < length sig → number_in sig f n ≤ k
-number-first [] f n k p q h = absurd (omega arith)
-number-first (s ∷ sig) f n zero p q h =
-    let e : is_symbol s f n ≡ true = and_from _ _ (subst (λ g. same_name s.name g ≡ true) p (name-same s.name)) (eq-eqb s.arity n q) in
+pub number_first : (sig : Signature) (f : Name) (n k : ℕ) → name_at sig k ≡ f → arity_at sig k ≡ n → k < length sig → number_in sig f n ≤ k
+number_first [] f n k p q h = absurd (omega arith)
+number_first (s ∷ sig) f n zero p q h =
+    let e : is_symbol s f n ≡ true = and_from _ _ (subst (λ g. same_name s.name g ≡ true) p (name_same s.name)) (eq-eqb s.arity n q) in
     let z = cond-true {A = ℕ} (is_symbol s f n) 0 (suc (number_in sig f n)) e in omega arith
-number-first (s ∷ sig) f n (suc k) p q h = go (is_symbol s f n) (number-first sig f n k p q (omega arith))
+number_first (s ∷ sig) f n (suc k) p q h = go (is_symbol s f n) (number_first sig f n k p q (omega arith))
   where
     go : (t : Bool) → number_in sig f n ≤ k → cond t 0 (suc (number_in sig f n)) ≤ suc k
     go true l = omega arith
     go false l = omega arith
 
-pub number-top : (sig : Signature) (f : Name) (n : ℕ) → number_in sig f n ≤ length sig
-number-top [] f n = omega arith
-number-top (s ∷ sig) f n = go (is_symbol s f n) (number-top sig f n)
+pub number_top : (sig : Signature) (f : Name) (n : ℕ) → number_in sig f n ≤ length sig
+number_top [] f n = omega arith
+number_top (s ∷ sig) f n = go (is_symbol s f n) (number_top sig f n)
   where
     go : (t : Bool) → number_in sig f n ≤ length sig → cond t 0 (suc (number_in sig f n)) ≤ suc (length sig)
     go true l = omega arith
@@ -52,9 +52,9 @@ number-top (s ∷ sig) f n = go (is_symbol s f n) (number-top sig f n)
 abbrev pub at : List Variable → ℕ → Variable
 at V k = get_or V k (blank 0)
 
-pub names-long : (V : List Variable) → length (names_of V) ≡ length V
-names-long [] = refl
-names-long (x ∷ V) = ap suc (names-long V)
+pub names_long : (V : List Variable) → length (names_of V) ≡ length V
+names_long [] = refl
+names_long (x ∷ V) = ap suc (names_long V)
 
 names_at : (V : List Variable) (k : ℕ) → k < length V → (name_at (names_of V) k ≡ called (at V k)) × (arity_at (names_of V) k ≡ 0)
 names_at [] k h = absurd (omega arith)
@@ -71,60 +71,60 @@ pub record Begins (V W : List Variable) : Type 0 where
   pub long : length V ≤ length W
   pub same : (k : ℕ) → k < length V → at W k ≡ at V k
 
-pub begins-all : (V : List Variable) → Begins V V
-begins-all V = record { long = omega arith; same = λ k h. refl }
+pub begins_all : (V : List Variable) → Begins V V
+begins_all V = record { long = omega arith; same = λ k h. refl }
 
-pub begins-then : {U V W : List Variable} → Begins U V → Begins V W → Begins U W
-begins-then p q = record { long = omega (arith, p.long, q.long); same = λ k h. q.same k (omega (arith, p.long)) ∙ p.same k h }
+pub begins_then : {U V W : List Variable} → Begins U V → Begins V W → Begins U W
+begins_then p q = record { long = omega (arith, p.long, q.long); same = λ k h. q.same k (omega (arith, p.long)) ∙ p.same k h }
 
 module _ (V : List Variable) (x : Variable) where
   pushed_long : length (V ++ x ∷ []) ≡ length V + 1
   pushed_long = length-append V (x ∷ [])
 
-  pushed-last : at (V ++ x ∷ []) (length V) ≡ x
-  pushed-last = get_or_push V x (blank 0) (length V) refl
+  pushed_last : at (V ++ x ∷ []) (length V) ≡ x
+  pushed_last = get_or_push V x (blank 0) (length V) refl
 
-  pushed-old : (k : ℕ) → k < length V → at (V ++ x ∷ []) k ≡ at V k
-  pushed-old k h = get_or_append_left V (x ∷ []) (blank 0) k h
+  pushed_old : (k : ℕ) → k < length V → at (V ++ x ∷ []) k ≡ at V k
+  pushed_old k h = get_or_append_left V (x ∷ []) (blank 0) k h
 
-blanks-push : (V : List Variable) (x : Variable) → blanks_in (V ++ x ∷ []) ≡ blanks_in V + blanks_in (x ∷ [])
-blanks-push [] x = omega arith
-blanks-push (named v ∷ V) x = blanks-push V x
-blanks-push (blank n ∷ V) x = ap suc (blanks-push V x) ∙ omega arith
+blanks_push : (V : List Variable) (x : Variable) → blanks_in (V ++ x ∷ []) ≡ blanks_in V + blanks_in (x ∷ [])
+blanks_push [] x = omega arith
+blanks_push (named v ∷ V) x = blanks_push V x
+blanks_push (blank n ∷ V) x = ap suc (blanks_push V x) ∙ omega arith
 
-apart-push : (V : List Variable) (x : Variable) → Apart V → ((k : ℕ) → k < length V → at V k ≡ x → ⊥) → ((n : ℕ) → x ≡ blank n → n ≡ blanks_in V) → Apart (V ++ x ∷ [])
-apart-push V x a absent count = record {
+apart_push : (V : List Variable) (x : Variable) → Apart V → ((k : ℕ) → k < length V → at V k ≡ x → ⊥) → ((n : ℕ) → x ≡ blank n → n ≡ blanks_in V) → Apart (V ++ x ∷ [])
+apart_push V x a absent count = record {
   once = λ i j hi hj e.
       elim (cases_lt i (length V)) [
         | inl li ↦ elim (cases_lt j (length V)) [
-          | inl lj ↦ a.once i j li lj (sym (pushed-old V x i li) ∙ e ∙ pushed-old V x j lj)
-          | inr gj ↦ (let q : j ≡ length V = omega (arith, pushed_long V x) in absurd (absent i li (sym (pushed-old V x i li) ∙ e ∙ ap (at (V ++ x ∷ [])) q ∙ pushed-last V x)))
+          | inl lj ↦ a.once i j li lj (sym (pushed_old V x i li) ∙ e ∙ pushed_old V x j lj)
+          | inr gj ↦ (let q : j ≡ length V = omega (arith, pushed_long V x) in absurd (absent i li (sym (pushed_old V x i li) ∙ e ∙ ap (at (V ++ x ∷ [])) q ∙ pushed_last V x)))
         ]
         | inr gi ↦ elim (cases_lt j (length V)) [
-          | inl lj ↦ (let q : i ≡ length V = omega (arith, pushed_long V x) in absurd (absent j lj (sym (pushed-old V x j lj) ∙ sym e ∙ ap (at (V ++ x ∷ [])) q ∙ pushed-last V x)))
+          | inl lj ↦ (let q : i ≡ length V = omega (arith, pushed_long V x) in absurd (absent j lj (sym (pushed_old V x j lj) ∙ sym e ∙ ap (at (V ++ x ∷ [])) q ∙ pushed_last V x)))
           | inr gj ↦ omega (arith, pushed_long V x)
         ]
       ];
   blanks = λ k n h e.
       elim (cases_lt k (length V)) [
-        | inl l ↦ omega (arith, a.blanks k n l (sym (pushed-old V x k l) ∙ e), blanks-push V x)
+        | inl l ↦ omega (arith, a.blanks k n l (sym (pushed_old V x k l) ∙ e), blanks_push V x)
         | inr g ↦
             (let q : k ≡ length V = omega (arith, pushed_long V x) in
-            let is : x ≡ blank n = sym (pushed-last V x) ∙ ap (at (V ++ x ∷ [])) (sym q) ∙ e in
+            let is : x ≡ blank n = sym (pushed_last V x) ∙ ap (at (V ++ x ∷ [])) (sym q) ∙ e in
             let one : blanks_in (x ∷ []) ≡ 1 = ap (λ y. blanks_in (y ∷ [])) is in
-            omega (arith, blanks-push V x, count n is))
+            omega (arith, blanks_push V x, count n is))
       ];
 }
 
 pub apart_none : Apart []
 apart_none = record { once = λ i j hi hj e. absurd (omega arith); blanks = λ k n h e. absurd (omega arith) }
 
-not-blank : (n : ℕ) (v : Name) → is_blank v ≡ false → called (blank n) ≡ v → ⊥
-not-blank n v e q = let z : true ≡ false = ap is_blank q ∙ e in let w : ◌≡◌ {A = ℕ} 0 1 = cc in omega arith
+not_blank : (n : ℕ) (v : Name) → is_blank v ≡ false → called (blank n) ≡ v → ⊥
+not_blank n v e q = let z : true ≡ false = ap is_blank q ∙ e in let w : ◌≡◌ {A = ℕ} 0 1 = cc in omega arith
 
-called-named : (x : Variable) (v : Name) → is_blank v ≡ false → called x ≡ v → x ≡ named v
-called-named (named w) v e q = ap named q
-called-named (blank n) v e q = absurd (not-blank n v e q)
+called_named : (x : Variable) (v : Name) → is_blank v ≡ false → called x ≡ v → x ≡ named v
+called_named (named w) v e q = ap named q
+called_named (blank n) v e q = absurd (not_blank n v e q)
 
 -- what noting a name does
 pub record Noted (V : List Variable) (v : Name) : Type 0 where
@@ -142,29 +142,29 @@ module _ (V : List Variable) (v : Name) (a : Apart V) where
     new_is : noted V v ≡ V ++ x ∷ []
     new_is = cond-false (ltb (number_of V v) (length V)) V (V ++ meant (blanks_in V) v ∷ []) (le-ltb (number_of V v) (length V) (omega arith)) ∙ ap (λ y. V ++ y ∷ []) is_x
 
-    new-noted : Noted V v
-    new-noted =
+    new_noted : Noted V v
+    new_noted =
         let e = new_is in
         record {
-          begins = subst (Begins V) (sym e) (record { long = omega (arith, pushed_long V x); same = pushed-old V x });
+          begins = subst (Begins V) (sym e) (record { long = omega (arith, pushed_long V x); same = pushed_old V x });
           within = omega (arith, ap length e, pushed_long V x);
-          is = ap₂ at e new ∙ pushed-last V x ∙ sym is_x;
-          apart = subst Apart (sym e) (apart-push V x a absent count);
-          counts = ap blanks_in e ∙ blanks-push V x ∙ ap (λ k. blanks_in V + k) one;
+          is = ap₂ at e new ∙ pushed_last V x ∙ sym is_x;
+          apart = subst Apart (sym e) (apart_push V x a absent count);
+          counts = ap blanks_in e ∙ blanks_push V x ∙ ap (λ k. blanks_in V + k) one;
           more = inr new;
           grows = omega (arith, ap length e, pushed_long V x);
         }
 
-  go-found : is_blank v ≡ false → number_of V v ≡ number_in (names_of V) v 0 → number_in (names_of V) v 0 < length V → Noted V v
-  go-found plain e lt =
+  go_found : is_blank v ≡ false → number_of V v ≡ number_in (names_of V) v 0 → number_in (names_of V) v 0 < length V → Noted V v
+  go_found plain e lt =
       let same : noted V v ≡ V = cond-true (ltb (number_of V v) (length V)) V (V ++ meant (blanks_in V) v ∷ []) (lt-ltb (number_of V v) (length V) (omega arith)) in
-      let here = number_is (names_of V) v 0 (omega (arith, names-long V)) in
+      let here = number_is (names_of V) v 0 (omega (arith, names_long V)) in
       let there = names_at V (number_in (names_of V) v 0) lt in
       record {
-        begins = subst (Begins V) (sym same) (begins-all V);
+        begins = subst (Begins V) (sym same) (begins_all V);
         within = omega (arith, ap length same);
         is =
-            ap₂ at same e ∙ called-named (at V (number_in (names_of V) v 0)) v plain (sym there.0 ∙ here.0)
+            ap₂ at same e ∙ called_named (at V (number_in (names_of V) v 0)) v plain (sym there.0 ∙ here.0)
             ∙ sym (cond-false (is_blank v) (blank (blanks_in V)) (named v) plain);
         apart = subst Apart (sym same) a;
         counts = ap blanks_in same ∙ (let z = cond-false {A = ℕ} (is_blank v) 1 0 plain in omega arith);
@@ -172,11 +172,11 @@ module _ (V : List Variable) (v : Name) (a : Apart V) where
         grows = omega (arith, ap length same);
       }
 
-  go-new : is_blank v ≡ false → number_of V v ≡ number_in (names_of V) v 0 → length V ≤ number_in (names_of V) v 0 → number_in (names_of V) v 0 ≤ length V → Noted V v
-  go-new plain e ge le =
-      new-noted (named v) (cond-false (is_blank v) (blank (blanks_in V)) (named v) plain) (omega arith)
+  go_new : is_blank v ≡ false → number_of V v ≡ number_in (names_of V) v 0 → length V ≤ number_in (names_of V) v 0 → number_in (names_of V) v 0 ≤ length V → Noted V v
+  go_new plain e ge le =
+      new_noted (named v) (cond-false (is_blank v) (blank (blanks_in V)) (named v) plain) (omega arith)
       (λ k h q. (let there = names_at V k h in
-      let first = number-first (names_of V) v 0 k (there.0 ∙ ap called q) there.1 (omega (arith, names-long V)) in omega arith))
+      let first = number_first (names_of V) v 0 k (there.0 ∙ ap called q) there.1 (omega (arith, names_long V)) in omega arith))
       (λ n q. (let z : ◌≡◌ {A = ℕ} 0 1 = cc in absurd (omega arith)))
       (sym (cond-false {A = ℕ} (is_blank v) 1 0 plain))
 
@@ -185,15 +185,15 @@ module _ (V : List Variable) (v : Name) (a : Apart V) where
     where
       go : (t : Bool) → is_blank v ≡ t → Noted V v
       go true e =
-          new-noted (blank (blanks_in V)) (cond-true (is_blank v) (blank (blanks_in V)) (named v) e) (cond-true (is_blank v) (length V) (number_in (names_of V) v 0) e)
+          new_noted (blank (blanks_in V)) (cond-true (is_blank v) (blank (blanks_in V)) (named v) e) (cond-true (is_blank v) (length V) (number_in (names_of V) v 0) e)
           (λ k h q. (let l = a.blanks k (blanks_in V) h q in omega arith))
           (λ n q. (let z : n ≡ blanks_in V = cc in z))
           (sym (cond-true {A = ℕ} (is_blank v) 1 0 e))
       go false e =
           let same : number_of V v ≡ number_in (names_of V) v 0 = cond-false (is_blank v) (length V) (number_in (names_of V) v 0) e in
           elim (cases_lt (number_in (names_of V) v 0) (length V)) [
-            | inl lt ↦ go-found e same lt
-            | inr ge ↦ go-new e same ge (omega (arith, number-top (names_of V) v 0, names-long V))
+            | inl lt ↦ go_found e same lt
+            | inr ge ↦ go_new e same ge (omega (arith, number_top (names_of V) v 0, names_long V))
           ]
 
 -- variables alike
@@ -204,13 +204,13 @@ alike (blank n) (named v) = false
 alike (blank m) (blank n) = eqb m n
 
 alike_is : (x y : Variable) → alike x y ≡ true → x ≡ y
-alike_is (named v) (named w) h = ap named (same-name v w h)
+alike_is (named v) (named w) h = ap named (same_name_lem v w h)
 alike_is (named v) (blank n) h = let z : ◌≡◌ {A = ℕ} 0 1 = cc in absurd (omega arith)
 alike_is (blank n) (named v) h = let z : ◌≡◌ {A = ℕ} 0 1 = cc in absurd (omega arith)
 alike_is (blank m) (blank n) h = ap blank (eqb-true m n h)
 
 alike_self : (x : Variable) → alike x x ≡ true
-alike_self (named v) = name-same v
+alike_self (named v) = name_same v
 alike_self (blank n) = eq-eqb n n refl
 
 -- where a variable stands
@@ -231,21 +231,21 @@ place_at (y ∷ V) (suc k) h = go (place_at V k (omega arith)) (alike y (at V k)
 pub placed : (V : List Variable) → Apart V → (k : ℕ) → k < length V → place V (at V k) ≡ k
 placed V a k h = let p = place_at V k h in a.once (place V (at V k)) k (omega (arith, p.0)) h p.1
 
-called-meant : (n : ℕ) (v : Name) → called (meant n v) ≡ v
-called-meant n v = go (is_blank v) refl
+called_meant : (n : ℕ) (v : Name) → called (meant n v) ≡ v
+called_meant n v = go (is_blank v) refl
   where
-    blank-name : (v : Name) → is_blank v ≡ true → 95 ∷ [] ≡ v
-    blank-name [] e = let z : ◌≡◌ {A = ℕ} 0 1 = cc in absurd (omega arith)
-    blank-name (b ∷ []) e = ap (λ x. x ∷ []) (sym (eqb-true b 95 e))
-    blank-name (b ∷ c ∷ bs) e = let z : ◌≡◌ {A = ℕ} 0 1 = cc in absurd (omega arith)
+    blank_name : (v : Name) → is_blank v ≡ true → 95 ∷ [] ≡ v
+    blank_name [] e = let z : ◌≡◌ {A = ℕ} 0 1 = cc in absurd (omega arith)
+    blank_name (b ∷ []) e = ap (λ x. x ∷ []) (sym (eqb-true b 95 e))
+    blank_name (b ∷ c ∷ bs) e = let z : ◌≡◌ {A = ℕ} 0 1 = cc in absurd (omega arith)
 
     go : (t : Bool) → is_blank v ≡ t → called (cond t (blank n) (named v)) ≡ v
-    go true e = blank-name v e
+    go true e = blank_name v e
     go false e = refl
 
-names-push : (V : List Variable) (x : Variable) → names_of (V ++ x ∷ []) ≡ names_of V ++ record { name = called x; arity = 0 } ∷ []
-names-push [] x = refl
-names-push (y ∷ V) x = ap (λ l. record { name = called y; arity = 0 } ∷ l) (names-push V x)
+names_push : (V : List Variable) (x : Variable) → names_of (V ++ x ∷ []) ≡ names_of V ++ record { name = called x; arity = 0 } ∷ []
+names_push [] x = refl
+names_push (y ∷ V) x = ap (λ l. record { name = called y; arity = 0 } ∷ l) (names_push V x)
 
 -- a variable's number by its name
 module _ (names : Signature) (v : Name) (V : List Variable) (is : names ≡ names_of V) where
@@ -260,15 +260,15 @@ module _ (names : Signature) (v : Name) (V : List Variable) (is : names ≡ name
           on true l q =
               let lt = ltb-true (number_in (names_of V) v 0) (length (names_of V)) l in
               let same : number_of V v ≡ number_in (names_of V) v 0 = cond-false (is_blank v) (length V) (number_in (names_of V) v 0) e in
-              let k-is : k ≡ number_in (names_of V) v 0 = cc in
-              (k-is ∙ sym same, is ∙ sym (ap names_of (cond-true (ltb (number_of V v) (length V)) V (V ++ meant (blanks_in V) v ∷ []) (lt-ltb (number_of V v) (length V) (omega (arith, names-long V))))))
+              let k_is : k ≡ number_in (names_of V) v 0 = cc in
+              (k_is ∙ sym same, is ∙ sym (ap names_of (cond-true (ltb (number_of V v) (length V)) V (V ++ meant (blanks_in V) v ∷ []) (lt-ltb (number_of V v) (length V) (omega (arith, names_long V))))))
           on false l q = let z : ◌≡◌ {A = ℕ} 0 1 = cc in absurd (omega arith)
 
-  pub known-none : None ≡ known_variable names v → (length names ≡ number_of V v) × (names ++ record { name = v; arity = 0 } ∷ [] ≡ names_of (noted V v))
-  known-none h =
+  pub known_none : None ≡ known_variable names v → (length names ≡ number_of V v) × (names ++ record { name = v; arity = 0 } ∷ [] ≡ names_of (noted V v))
+  known_none h =
       let new : number_of V v ≡ length V = go (is_blank v) refl (h ∙ ap (λ s. known_variable s v) is) in (
-        ap length is ∙ names-long V ∙ sym new,
-        ap (λ s. s ++ record { name = v; arity = 0 } ∷ []) is ∙ ap (λ f. names_of V ++ record { name = f; arity = 0 } ∷ []) (sym (called-meant (blanks_in V) v)) ∙ sym (names-push V (meant (blanks_in V) v))
+        ap length is ∙ names_long V ∙ sym new,
+        ap (λ s. s ++ record { name = v; arity = 0 } ∷ []) is ∙ ap (λ f. names_of V ++ record { name = f; arity = 0 } ∷ []) (sym (called_meant (blanks_in V) v)) ∙ sym (names_push V (meant (blanks_in V) v))
             ∙ sym (ap names_of (cond-false (ltb (number_of V v) (length V)) V (V ++ meant (blanks_in V) v ∷ []) (le-ltb (number_of V v) (length V) (omega arith)))),
       )
     where
@@ -278,4 +278,4 @@ module _ (names : Signature) (v : Name) (V : List Variable) (is : names ≡ name
         where
           on : (t : Bool) → ltb (number_in (names_of V) v 0) (length (names_of V)) ≡ t → None ≡ cond t (Some (number_in (names_of V) v 0)) None → number_in (names_of V) v 0 ≡ length V
           on true l q = let z : ◌≡◌ {A = ℕ} 0 1 = cc in absurd (omega arith)
-          on false l q = omega (arith, ltb-false (number_in (names_of V) v 0) (length (names_of V)) l, number-top (names_of V) v 0, names-long V)
+          on false l q = omega (arith, ltb-false (number_in (names_of V) v 0) (length (names_of V)) l, number_top (names_of V) v 0, names_long V)

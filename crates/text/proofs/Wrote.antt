@@ -3,8 +3,8 @@ use Rattle.std.proofs.Common.{◌≡◌, ℕ, suc, ◌+◌, ◌<◌, ◌≤◌, 
 use Rattle.std.proofs.lemmas.List.{append_assoc, length-append, length-take-le, length-drop, take_at, drop_at, drop-drop, set_split, take-append-drop}
 use Rattle.text.specs.Buffers.{wrote}
 
-pub length-wrote : (out : List ℕ) (at : ℕ) (bs : List ℕ) → at + length bs ≤ length out → length (wrote out at bs) ≡ length out
-length-wrote out at bs h =
+pub length_wrote : (out : List ℕ) (at : ℕ) (bs : List ℕ) → at + length bs ≤ length out → length (wrote out at bs) ≡ length out
+length_wrote out at bs h =
     length-append (take at out) (bs ++ drop (at + length bs) out)
     ∙ omega (arith, length-take-le at out (omega arith), length-append bs (drop (at + length bs) out), length-drop (at + length bs) out)
 
@@ -14,8 +14,8 @@ wrote_none out at = ap (λ k. take at out ++ drop k out) {x = at + 0} {y = at} (
 pub wrote_one : (out : List ℕ) (at b : ℕ) → at < length out → set out at b ≡ wrote out at (b ∷ [])
 wrote_one out at b h = set_split out at b h ∙ ap (λ k. take at out ++ b ∷ drop k out) {x = suc at} {y = at + 1} (omega arith)
 
-pub wrote-more : (out : List ℕ) (at : ℕ) (xs ys : List ℕ) → at + length xs ≤ length out → wrote (wrote out at xs) (at + length xs) ys ≡ wrote out at (xs ++ ys)
-wrote-more out at xs ys h =
+pub wrote_more : (out : List ℕ) (at : ℕ) (xs ys : List ℕ) → at + length xs ≤ length out → wrote (wrote out at xs) (at + length xs) ys ≡ wrote out at (xs ++ ys)
+wrote_more out at xs ys h =
     let front = take at out ++ xs in
     let size : length front ≡ at + length xs = length-append (take at out) xs ∙ omega (arith, length-take-le at out (omega arith)) in
     let is : wrote out at xs ≡ front ++ drop (at + length xs) out = sym (append_assoc (take at out) xs (drop (at + length xs) out)) in

@@ -4,13 +4,13 @@ use Rattle.horn.specs.Terms.{nil, cons}
 use Rattle.heap.specs.Heaps.{cell}
 use Rattle.heap.specs.Solutions.{Valuation, Sol}
 use Rattle.heap.proofs.SpanLaws.{size}
-use Rattle.heap.proofs.Denotes.{stands, stands-sol}
+use Rattle.heap.proofs.Denotes.{stands, stands_sol}
 use Rattle.answers.specs.Frames.{field_at, added, pending}
 use Rattle.answers.specs.Streams.{writtens}
 use Rattle.answers.specs.Numbering.{Numbered}
-use Rattle.answers.proofs.FrameLaws.{Above, Chain, length-added, depth, chain_next}
-use Rattle.answers.proofs.TakeLaws.{puts_none, puts-stop, puts_then}
-use Rattle.answers.proofs.TurnLaws.{moved-start, moved_on, moved-end, field-bytes, chain-pushed}
+use Rattle.answers.proofs.FrameLaws.{Above, Chain, length_added, depth, chain_next}
+use Rattle.answers.proofs.TakeLaws.{puts_none, puts_stop, puts_then}
+use Rattle.answers.proofs.TurnLaws.{moved_start, moved_on, moved_end, field_bytes, chain_pushed}
 use Rattle.answers.proofs.values.put_value.Goals as goal
 
 pub loop-frame-init : goal.loop-frame-init
@@ -21,7 +21,7 @@ loop-frame-init g c =
       c.requires.tally,
       omega (arith, c.requires.places, c.over-stack.ensures.room),
       λ ρ sol. subst (λ fs. Chain (λ i. size (ρ i)) (length c.args.cells.now) fs × Above (λ i. size (ρ i)) (size (ρ c.args.start)) fs) (sym empty) (tt, tt),
-      λ us n. moved-start _ _ _ us _ _ _ _ empty (puts_none c.args.sink.now c.args.out.now) n,
+      λ us n. moved_start _ _ _ us _ _ _ _ empty (puts_none c.args.sink.now c.args.out.now) n,
     )
 
 pub returns-in_default : goal.returns-in_default
@@ -34,7 +34,7 @@ returns-in_default g c =
       after = λ us ρ n st.
           let m = c.loop-frame.invariant.4 us n in (
             puts_then (writtens (cons (ρ at) (pending ρ fs nil)) m.vs) (m.bytes ρ st) refl m.held
-                (puts-stop _ (field-bytes _ c.args.cells.now at c.root-place.result c.root-place.ensures ρ st (pending ρ fs nil) m.vs) refl (c.in_default.ensures.after m.vs m.numbered).0),
+                (puts_stop _ (field_bytes _ c.args.cells.now at c.root-place.result c.root-place.ensures ρ st (pending ρ fs nil) m.vs) refl (c.in_default.ensures.after m.vs m.numbered).0),
             tt,
           );
     }
@@ -48,9 +48,9 @@ push_frame-requires g c =
     let f = c.in-Some.frame in
     let inv = c.loop-frame.invariant in
     let ρ = stands names H c.requires.sound in
-    let sol = stands-sol names H c.requires.sound in
-    let chain = chain-pushed names H c.loop-frame.at c.root-place.result c.root-place.ensures c.requires.closed ρ sol fs (added f fs) f c.in-Some.ensures.frame refl (inv.3 ρ sol).0 (inv.3 ρ sol).1 in
-    λ some. omega (arith, inv.2, depth (λ i. size (ρ i)) (length H) (added f fs) chain, length-added f fs some, length-take-le stack.len stack.items.now stack.ok)
+    let sol = stands_sol names H c.requires.sound in
+    let chain = chain_pushed names H c.loop-frame.at c.root-place.result c.root-place.ensures c.requires.closed ρ sol fs (added f fs) f c.in-Some.ensures.frame refl (inv.3 ρ sol).0 (inv.3 ρ sol).1 in
+    λ some. omega (arith, inv.2, depth (λ i. size (ρ i)) (length H) (added f fs) chain, length_added f fs some, length-take-le stack.len stack.items.now stack.ok)
 
 pub returns-in_default-pop : goal.returns-in_default-pop
 returns-in_default-pop g c =
@@ -64,7 +64,7 @@ returns-in_default-pop g c =
       after = λ us ρ n st.
           let m = c.loop-frame.invariant.4 us n in
           let p = c.in-Some.ensures.after m.vs m.numbered in
-          let e = moved-end names H c.loop-frame.at r c.root-place.ensures c.args.start us _ _ _ _ m c.in-Some.frame c.in-Some.ensures.frame _ c.push_frame.ensures.after empty ρ st in (
+          let e = moved_end names H c.loop-frame.at r c.root-place.ensures c.args.start us _ _ _ _ m c.in-Some.frame c.in-Some.ensures.frame _ c.push_frame.ensures.after empty ρ st in (
             puts_then (field_at names (cell H r) r m.vs) e.0 refl m.held p.0,
             subst (λ ws. Numbered ws c.put_field.new.numbers c.put_field.new.seen) (sym e.1) p.1,
           );
@@ -77,8 +77,8 @@ overflow_add-top g c =
     let stack = c.loop-frame.stack in
     let inv = c.loop-frame.invariant in
     let ρ = stands names H c.requires.sound in
-    let sol = stands-sol names H c.requires.sound in
-    let chain = chain-pushed names H c.loop-frame.at c.root-place.result c.root-place.ensures c.requires.closed ρ sol (take stack.len stack.items.now) _ c.in-Some.frame c.in-Some.ensures.frame c.push_frame.ensures.after (inv.3 ρ sol).0 (inv.3 ρ sol).1 in
+    let sol = stands_sol names H c.requires.sound in
+    let chain = chain_pushed names H c.loop-frame.at c.root-place.result c.root-place.ensures c.requires.closed ρ sol (take stack.len stack.items.now) _ c.in-Some.frame c.in-Some.ensures.frame c.push_frame.ensures.after (inv.3 ρ sol).0 (inv.3 ρ sol).1 in
     let fit = (chain_next (λ i. size (ρ i)) (length H) _ _ _ c.in-Some-pop.top c.in-Some-pop.ensures.cases.1 refl chain).2 in
     omega (arith, fit.within, fit.some, c.requires.small)
 
@@ -89,8 +89,8 @@ overflow_sub-top g c =
     let stack = c.loop-frame.stack in
     let inv = c.loop-frame.invariant in
     let ρ = stands names H c.requires.sound in
-    let sol = stands-sol names H c.requires.sound in
-    let chain = chain-pushed names H c.loop-frame.at c.root-place.result c.root-place.ensures c.requires.closed ρ sol (take stack.len stack.items.now) _ c.in-Some.frame c.in-Some.ensures.frame c.push_frame.ensures.after (inv.3 ρ sol).0 (inv.3 ρ sol).1 in
+    let sol = stands_sol names H c.requires.sound in
+    let chain = chain_pushed names H c.loop-frame.at c.root-place.result c.root-place.ensures c.requires.closed ρ sol (take stack.len stack.items.now) _ c.in-Some.frame c.in-Some.ensures.frame c.push_frame.ensures.after (inv.3 ρ sol).0 (inv.3 ρ sol).1 in
     let fit = (chain_next (λ i. size (ρ i)) (length H) _ _ _ c.in-Some-pop.top c.in-Some-pop.ensures.cases.1 refl chain).2 in
     omega (arith, fit.some)
 
@@ -105,8 +105,8 @@ loop-frame-preserved g c =
     let popped = c.in-Some-pop.ensures.cases.1 in
     let next = λ (ρ : Valuation) (sol : Sol names H ρ).
     chain_next (λ i. size (ρ i)) (length H) _ _ _ top popped c.push_frame-in-loop-frame.ensures.after
-    (chain-pushed names H c.loop-frame.at r c.root-place.ensures c.requires.closed ρ sol (take stack.len stack.items.now) _ c.in-Some.frame c.in-Some.ensures.frame c.push_frame.ensures.after (inv.3 ρ sol).0 (inv.3 ρ sol).1) in
-    let fit = (next (stands names H c.requires.sound) (stands-sol names H c.requires.sound)).2 in (
+    (chain_pushed names H c.loop-frame.at r c.root-place.ensures c.requires.closed ρ sol (take stack.len stack.items.now) _ c.in-Some.frame c.in-Some.ensures.frame c.push_frame.ensures.after (inv.3 ρ sol).0 (inv.3 ρ sol).1) in
+    let fit = (next (stands names H c.requires.sound) (stands_sol names H c.requires.sound)).2 in (
       omega (arith, fit.within, fit.some),
       c.in-Some.ensures.tally,
       omega (arith, inv.2, c.push_frame.ensures.room, ap length c.in-Some-pop.ensures.same, c.push_frame-in-loop-frame.ensures.room),

@@ -1,7 +1,7 @@
 use Rattle.std.proofs.Common.{◌≡◌, ◌+◌, ◌-◌, ◌++◌, take, drop, refl, ap, arith}
 use Rattle.answers.specs.Shows.{name_of}
 use Rattle.answers.specs.Streams.{written}
-use Rattle.answers.proofs.TakeLaws.{puts-stop, puts_then}
+use Rattle.answers.proofs.TakeLaws.{puts_stop, puts_then}
 use Rattle.answers.proofs.writer.put_variable.Goals as goal
 
 pub returns-then-not-put : goal.returns-then-not-put
@@ -9,7 +9,7 @@ returns-then-not-put g c =
     let v = c.args.variable in
     record {
       tally = c.requires.tally;
-      after = λ us ρ n st. (puts-stop (name_of c.args.line.now v ++ written (ρ v.cell) us) refl refl c.if-not-put.ensures, tt);
+      after = λ us ρ n st. (puts_stop (name_of c.args.line.now v ++ written (ρ v.cell) us) refl refl c.if-not-put.ensures, tt);
     }
 
 pub returns-then-not-put_bytes : goal.returns-then-not-put_bytes
@@ -21,7 +21,7 @@ returns-then-not-put_bytes g c =
       tally = c.requires.tally;
       after = λ us ρ n st. (
         puts_then (name_of line v ++ written (ρ v.cell) us) refl refl c.if-not-put.ensures
-            (puts-stop (written (ρ v.cell) us) (ap (λ k. take k (drop v.start line) ++ written (ρ v.cell) us) len) refl c.if-not-put_bytes.ensures),
+            (puts_stop (written (ρ v.cell) us) (ap (λ k. take k (drop v.start line) ++ written (ρ v.cell) us) len) refl c.if-not-put_bytes.ensures),
         tt,
       );
     }

@@ -3,8 +3,8 @@ use Rattle.std.proofs.ByRecursion.{All-get_or}
 use Rattle.answers.specs.declared.variable.Variable.{Variable}
 use Rattle.answers.specs.Shows.{Inside}
 use Rattle.answers.specs.Streams.{told, told_one}
-use Rattle.answers.proofs.ShowLaws.{partly_none, partly-next, partly_more, partly-all}
-use Rattle.answers.proofs.TakeLaws.{puts_none, puts-stop, puts_then, puts-same}
+use Rattle.answers.proofs.ShowLaws.{partly_none, partly_next, partly_more, partly_all}
+use Rattle.answers.proofs.TakeLaws.{puts_none, puts_stop, puts_then, puts_same}
 use Rattle.answers.proofs.writer.put_variables.Goals as goal
 
 abbrev zeros : Variable
@@ -34,7 +34,7 @@ returns-then-not-put_variable g c =
     λ us ρ n st.
     let m = c.loop-v.invariant.1 us ρ n st in
     puts_then (told c.args.line.now ρ (drop i c.args.variables.now) m.vs) m.bytes refl m.held
-    (puts-stop _ (partly-next c.args.line.now ρ c.args.variables.now us i zeros _ _ _ m lt) refl (c.if-not-put_variable.ensures.after m.vs ρ m.numbered st).0)
+    (puts_stop _ (partly_next c.args.line.now ρ c.args.variables.now us i zeros _ _ _ m lt) refl (c.if-not-put_variable.ensures.after m.vs ρ m.numbered st).0)
 
 pub loop-v-preserved : goal.loop-v-preserved
 loop-v-preserved g c =
@@ -51,4 +51,4 @@ loop-v-preserved g c =
 pub returns : goal.returns
 returns g c = λ us ρ n st.
     let m = c.loop-v.invariant.1 us ρ n st in
-    puts-same (partly-all c.args.line.now ρ c.args.variables.now us c.loop-v.v-index zeros _ _ _ m (search rules)) m.held
+    puts_same (partly_all c.args.line.now ρ c.args.variables.now us c.loop-v.v-index zeros _ _ _ m (search rules)) m.held

@@ -1,4 +1,4 @@
-use Rattle.cells.proofs.StateLaws.{back-cells, back-sane}
+use Rattle.cells.proofs.StateLaws.{back_cells, back_sane}
 use Rattle.cells.proofs.areas.go_back.Goals as goal
 
 pub returns : goal.returns
@@ -10,7 +10,7 @@ returns c =
     let after = c.undo.new.trail in
     let done = c.undo.ensures in
     record {
-      sane = back-sane cells part top trail after c.args.mark c.args.to c.requires.sane c.requires.saved done.cells done.len;
-      cells = back-cells cells part top trail after c.args.mark c.args.to c.requires.sane c.requires.saved done.cells done.len;
+      sane = back_sane cells part top trail after c.args.mark c.args.to c.requires.sane c.requires.saved done.cells done.len;
+      cells = back_cells cells part top trail after c.args.mark c.args.to c.requires.sane c.requires.saved done.cells done.len;
       trail = done.trail;
     }

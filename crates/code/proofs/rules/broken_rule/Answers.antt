@@ -3,8 +3,8 @@ use Rattle.code.specs.Instructions.{sets}
 use Rattle.code.specs.Words.{decode}
 use Rattle.code.specs.Tests.{every}
 use Rattle.code.specs.Passes.{inside}
-use Rattle.code.proofs.RangeLaws.{all-inside, all-got, all-put}
-use Rattle.code.proofs.ArgumentLaws.{every-at}
+use Rattle.code.proofs.RangeLaws.{all_inside, all_got, all_put}
+use Rattle.code.proofs.ArgumentLaws.{every_at}
 use Rattle.code.proofs.rules.broken_rule.Goals as goal
 
 pub keeps_slots-requires : goal.keeps_slots-requires
@@ -13,7 +13,7 @@ keeps_slots-requires c =
     let ar = c.args.arities.now in
     record {
       few = omega (arith, c.opened_by.ensures.small);
-      inside = subst (λ n. every (λ w. inside n (sets w)) (map decode code) ≡ true) (sym c.opened_by.ensures.value) (all-inside ar code (sym c.if-not-keeps_ranges.ensures));
+      inside = subst (λ n. every (λ w. inside n (sets w)) (map decode code) ≡ true) (sym c.opened_by.ensures.value) (all_inside ar code (sym c.if-not-keeps_ranges.ensures));
     }
 
 pub keeps_arguments-requires : goal.keeps_arguments-requires
@@ -21,8 +21,8 @@ keeps_arguments-requires c =
     let code = c.args.code.now in
     let ar = c.args.arities.now in
     record {
-      low = omega (arith, c.arity_at.ensures.value, every-at ar c.requires c.args.predicate);
+      low = omega (arith, c.arity_at.ensures.value, every_at ar c.requires c.args.predicate);
       arities = c.requires;
-      got = all-got ar code (sym c.if-not-keeps_ranges.ensures);
-      put = all-put ar code (sym c.if-not-keeps_ranges.ensures);
+      got = all_got ar code (sym c.if-not-keeps_ranges.ensures);
+      put = all_put ar code (sym c.if-not-keeps_ranges.ensures);
     }

@@ -4,7 +4,7 @@ use Rattle.code.specs.Instructions.{sets}
 use Rattle.code.specs.Words.{decode}
 use Rattle.code.specs.Rules.{builds}
 use Rattle.code.specs.Passes.{can_read, can_set, marked, slot_pass}
-use Rattle.code.proofs.SlotLaws.{pass-turn, slots-are, marked-length}
+use Rattle.code.proofs.SlotLaws.{pass_turn, slots_are, marked_length}
 use Rattle.code.proofs.slots.keeps_slots.Goals as goal
 
 pub returns-then-not-can_read : goal.returns-then-not-can_read
@@ -12,16 +12,16 @@ returns-then-not-can_read c =
     let T = c.loop-i.since in
     let code = c.args.code.now in
     let ar = c.args.arities.now in
-    sym (pass-turn c.args.slots ar code c.loop-i.i T c.decode-word.result false _ (search rules) c.decode-word.ensures.value (c.if-not-can_read.ensures ∙ ap (can_read T c.loop-i.i) c.reads.ensures) refl)
-    ∙ c.loop-i.invariant.0 ∙ slots-are c.args.slots ar (map decode code) c.requires.few c.requires.inside
+    sym (pass_turn c.args.slots ar code c.loop-i.i T c.decode-word.result false _ (search rules) c.decode-word.ensures.value (c.if-not-can_read.ensures ∙ ap (can_read T c.loop-i.i) c.reads.ensures) refl)
+    ∙ c.loop-i.invariant.0 ∙ slots_are c.args.slots ar (map decode code) c.requires.few c.requires.inside
 
 pub returns-then-not-can_set : goal.returns-then-not-can_set
 returns-then-not-can_set c =
     let T = c.loop-i.since in
     let code = c.args.code.now in
     let ar = c.args.arities.now in
-    sym (pass-turn c.args.slots ar code c.loop-i.i T c.decode-word.result true false (search rules) c.decode-word.ensures.value (c.if-not-can_read.ensures ∙ ap (can_read T c.loop-i.i) c.reads.ensures) (c.if-not-can_set.ensures ∙ ap (can_set T) c.sets.ensures))
-    ∙ c.loop-i.invariant.0 ∙ slots-are c.args.slots ar (map decode code) c.requires.few c.requires.inside
+    sym (pass_turn c.args.slots ar code c.loop-i.i T c.decode-word.result true false (search rules) c.decode-word.ensures.value (c.if-not-can_read.ensures ∙ ap (can_read T c.loop-i.i) c.reads.ensures) (c.if-not-can_set.ensures ∙ ap (can_set T) c.sets.ensures))
+    ∙ c.loop-i.invariant.0 ∙ slots_are c.args.slots ar (map decode code) c.requires.few c.requires.inside
 
 pub loop-i-preserved : goal.loop-i-preserved
 loop-i-preserved c =
@@ -33,9 +33,9 @@ loop-i-preserved c =
     let is : c.mark.new.since ≡ marked T (sets x) (i + 1 + builds ar x) =
     c.mark.ensures ∙ ap₂ (λ (o : Option ℕ) (b : ℕ). marked T o (i + 1 + b)) c.sets-in-loop-i.ensures c.words_built.ensures.value in (
       ap (λ (l : List ℕ). slot_pass c.args.slots ar (i + 1) l (map decode (drop (i + 1) code))) is
-          ∙ sym (pass-turn c.args.slots ar code i T x true true (search rules) c.decode-word.ensures.value (c.if-not-can_read.ensures ∙ ap (can_read T i) c.reads.ensures) (c.if-not-can_set.ensures ∙ ap (can_set T) c.sets.ensures))
+          ∙ sym (pass_turn c.args.slots ar code i T x true true (search rules) c.decode-word.ensures.value (c.if-not-can_read.ensures ∙ ap (can_read T i) c.reads.ensures) (c.if-not-can_set.ensures ∙ ap (can_set T) c.sets.ensures))
           ∙ c.loop-i.invariant.0,
-      ap length is ∙ marked-length T (sets x) (i + 1 + builds ar x) ∙ c.loop-i.invariant.1,
+      ap length is ∙ marked_length T (sets x) (i + 1 + builds ar x) ∙ c.loop-i.invariant.1,
     )
 
 pub returns : goal.returns
@@ -45,4 +45,4 @@ returns c =
     let ar = c.args.arities.now in
     c.all_set.ensures
     ∙ sym (at_drop_all (λ l. slot_pass c.args.slots ar c.loop-i.i T (map decode l)) code c.loop-i.i (search rules))
-    ∙ c.loop-i.invariant.0 ∙ slots-are c.args.slots ar (map decode code) c.requires.few c.requires.inside
+    ∙ c.loop-i.invariant.0 ∙ slots_are c.args.slots ar (map decode code) c.requires.few c.requires.inside

@@ -8,9 +8,9 @@ use Rattle.symbol_table.specs.Symbols.{arities_of}
 use Rattle.symbol_table.specs.Numbers.{Shorts, variables_after}
 use Rattle.compiler.specs.Reading.{weight}
 use Rattle.symbol_table.specs.Tables.{signature}
-use Rattle.symbol_table.proofs.NumberLaws.{names-long}
-use Rattle.compiler.proofs.StepLaws.{hefts-is, parts-long}
-use Rattle.compiler.proofs.CompileLaws.{short-terms, Parsed, parsed, predicates-long, items-long, parts-of, cut}
+use Rattle.symbol_table.proofs.NumberLaws.{names_long}
+use Rattle.compiler.proofs.StepLaws.{hefts_is, parts_long}
+use Rattle.compiler.proofs.CompileLaws.{short_terms, Parsed, parsed, predicates_long, items_long, parts_of_lem, cut}
 use Rattle.compiler.proofs.compile.compile_over.Goals as goal
 use Rattle.compiler.proofs.compile.compile_over.Goals.{After-flatten-p, After-len-vars}
 
@@ -20,16 +20,16 @@ flatten-p-requires c =
     record {
       fresh = c.requires.fresh;
       covered = c.requires.covered;
-      short = subst Shorts (sym tok) (short-terms (terms_of c.args.line) [] c.requires.proper.good tt);
-      goals = omega (arith, predicates-long (signature c.args.symbols.now) (terms_of c.args.line) (words_left c.args.line.body) c.requires.proper.callable tok, c.requires.goals, c.requires.proper.few);
-      arguments = omega (arith, items-long (signature c.args.symbols.now) (terms_of c.args.line) (words_left c.args.line.body) c.requires.proper.callable c.requires.proper.some tok c.requires.covered, c.requires.arguments, c.requires.proper.light);
+      short = subst Shorts (sym tok) (short_terms (terms_of c.args.line) [] c.requires.proper.good tt);
+      goals = omega (arith, predicates_long (signature c.args.symbols.now) (terms_of c.args.line) (words_left c.args.line.body) c.requires.proper.callable tok, c.requires.goals, c.requires.proper.few);
+      arguments = omega (arith, items_long (signature c.args.symbols.now) (terms_of c.args.line) (words_left c.args.line.body) c.requires.proper.callable c.requires.proper.some tok c.requires.covered, c.requires.arguments, c.requires.proper.light);
       few = omega (arith, c.requires.arguments);
     }
 
 number : (c : After-flatten-p) → c.flatten-p.result.0 ≡ count (terms_of c.args.line)
 number c =
     sym (length-take-le c.flatten-p.result.0 c.flatten-p.new.predicates c.flatten-p.ensures.within.0) ∙ ap length c.flatten-p.ensures.predicates
-    ∙ predicates-long (signature c.args.symbols.now) (terms_of c.args.line) (words_left c.args.line.body) c.requires.proper.callable c.requires.counted.tokens
+    ∙ predicates_long (signature c.args.symbols.now) (terms_of c.args.line) (words_left c.args.line.body) c.requires.proper.callable c.requires.counted.tokens
 
 made : (c : After-len-vars)
     → Parsed (signature c.args.symbols.now) (terms_of c.args.line) (get_or c.flatten-p.new.predicates 0 0) (take (c.flatten-p.result.0 - 1) (drop 1 c.flatten-p.new.predicates)) (take (c.flatten-p.result.1 - 0) c.flatten-p.new.items) c.len-vars.result
@@ -37,16 +37,16 @@ made c =
     let z : c.flatten-p.result.1 - 0 ≡ c.flatten-p.result.1 = omega arith in
     let n = number (goal.at.overflow_cast-vars c).After-flatten-p in
     parsed (signature c.args.symbols.now) (terms_of c.args.line) (words_left c.args.line.body) _ _ _ _ c.requires.proper.callable c.requires.proper.some c.requires.counted.tokens c.requires.covered
-    (parts-of c.flatten-p.new.predicates _ c.flatten-p.result.0 c.flatten-p.ensures.predicates (omega (arith, n, c.requires.proper.some)) c.flatten-p.ensures.within.0)
+    (parts_of_lem c.flatten-p.new.predicates _ c.flatten-p.result.0 c.flatten-p.ensures.predicates (omega (arith, n, c.requires.proper.some)) c.flatten-p.ensures.within.0)
     (ap (λ k. take k c.flatten-p.new.items) z ∙ c.flatten-p.ensures.items)
-    (c.len-vars.ensures.value ∙ ap length c.flatten-p.ensures.variables ∙ names-long (variables_after [] 0 (words_left c.args.line.body)))
+    (c.len-vars.ensures.value ∙ ap length c.flatten-p.ensures.variables ∙ names_long (variables_after [] 0 (words_left c.args.line.body)))
 
 -- the weight is that of the line
 weighed : (c : After-len-vars) → weight (take (c.flatten-p.result.0 - 1) (drop 1 c.flatten-p.new.predicates)) (take (c.flatten-p.result.1 - 0) c.flatten-p.new.items) ≡ c.args.line.weight
 weighed c = (made c).weighs ∙ sym c.requires.counted.weight
 
 pub overflow_cast-vars : goal.overflow_cast-vars
-overflow_cast-vars c = omega (arith, (made c).varied, parts-long (take (c.flatten-p.result.1 - 0) c.flatten-p.new.items), hefts-is (take (c.flatten-p.result.1 - 0) c.flatten-p.new.items), (made c).weighs, c.requires.proper.light)
+overflow_cast-vars c = omega (arith, (made c).varied, parts_long (take (c.flatten-p.result.1 - 0) c.flatten-p.new.items), hefts_is (take (c.flatten-p.result.1 - 0) c.flatten-p.new.items), (made c).weighs, c.requires.proper.light)
 
 pub slice_bounds-write_clause-count : goal.slice_bounds-write_clause-count
 slice_bounds-write_clause-count c = omega (arith, number (goal.at.slice_bounds-write_clause-count c).After-flatten-p, c.requires.proper.some)

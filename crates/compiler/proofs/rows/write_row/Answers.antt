@@ -2,13 +2,13 @@ use Rattle.std.proofs.Common.{◌≡◌, ℕ, ◌+◌, ◌<◌, length, take, sy
 use Rattle.compiler.specs.Emits.{Rowed}
 use Rattle.compiler.specs.Output.{Onto}
 use Rattle.compiler.specs.Tables.{laid, Ready}
-use Rattle.compiler.proofs.TableLaws.{hop-more, run_at}
-use Rattle.compiler.proofs.FillLaws.{rowed-none, rowed-more}
-use Rattle.compiler.proofs.OutputLaws.{onto-none, onto-then}
+use Rattle.compiler.proofs.TableLaws.{hop_more, run_at}
+use Rattle.compiler.proofs.FillLaws.{rowed_none, rowed_more}
+use Rattle.compiler.proofs.OutputLaws.{onto_none, onto_then}
 use Rattle.compiler.proofs.rows.write_row.Goals as goal
 
 pub loop-k-init : goal.loop-k-init
-loop-k-init c = (rowed-none _ _ _ _ _, refl, λ h. run_at (laid c.args.flat.now).after _ _ _ _ 0 c.requires.run h, onto-none _ _)
+loop-k-init c = (rowed_none _ _ _ _ _, refl, λ h. run_at (laid c.args.flat.now).after _ _ _ _ 0 c.requires.run h, onto_none _ _)
 
 pub operand_for-operand-requires : goal.operand_for-operand-requires
 operand_for-operand-requires c = record {
@@ -25,12 +25,12 @@ bounds-flat-place c = omega (arith, c.loop-k.invariant.2 c.loop-k-test.true, c.r
 pub loop-k-preserved : goal.loop-k-preserved
 loop-k-preserved c =
     let e : ℕ → ℕ = (laid c.args.flat.now).after in
-    let next = ap e c.loop-k.invariant.1 ∙ sym (hop-more e c.loop-k.k c.args.from) in (
-      rowed-more c.loop-k.invariant.0 c.loop-k.place _ _ _ _ c.loop-k.invariant.1 c.operand_for-operand.ensures c.instruction_for.ensures
+    let next = ap e c.loop-k.invariant.1 ∙ sym (hop_more e c.loop-k.k c.args.from) in (
+      rowed_more c.loop-k.invariant.0 c.loop-k.place _ _ _ _ c.loop-k.invariant.1 c.operand_for-operand.ensures c.instruction_for.ensures
           c.push-next.ensures.longer c.push-next.ensures.exact,
       next,
       λ h. subst (λ x. x < length c.args.flat.now.items.now) (sym next) (run_at e _ _ _ _ (c.loop-k.k + 1) c.requires.run h),
-      onto-then _ _ _ _ _ _ _ _ _ c.loop-k.invariant.3 c.push-next.ensures.onto refl,
+      onto_then _ _ _ _ _ _ _ _ _ c.loop-k.invariant.3 c.push-next.ensures.onto refl,
     )
 
 pub returns : goal.returns

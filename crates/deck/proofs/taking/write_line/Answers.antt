@@ -1,6 +1,6 @@
 use Rattle.std.proofs.Common.{◌≡◌, ◌+◌, length, take, drop, sym, refl, ap, ◌∙◌, arith, take_all, rules}
 use lib.Seq.{take-set-le}
-use Rattle.symbol_table.proofs.NameLaws.{name-turn}
+use Rattle.symbol_table.proofs.NameLaws.{name_turn}
 use Rattle.deck.proofs.taking.write_line.Goals as goal
 
 pub loop-i-init : goal.loop-i-init
@@ -9,7 +9,7 @@ loop-i-init c = (refl, refl)
 pub loop-i-preserved : goal.loop-i-preserved
 loop-i-preserved c = (
   take-set-le c.args.at c.loop-i.out (c.args.at + c.loop-i.i) _ (omega arith) ∙ c.loop-i.invariant.0,
-  name-turn c.loop-i.out c.args.line.now c.args.at c.loop-i.i (search rules) (omega (arith, c.requires, c.loop-i.auto.out, c.loop-i-test.true)) c.loop-i.invariant.1,
+  name_turn c.loop-i.out c.args.line.now c.args.at c.loop-i.i (search rules) (omega (arith, c.requires, c.loop-i.auto.out, c.loop-i-test.true)) c.loop-i.invariant.1,
 )
 
 pub returns : goal.returns

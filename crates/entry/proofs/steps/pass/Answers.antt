@@ -3,16 +3,16 @@ use Rattle.code.specs.declared.instructions.Operand.TheVariants.{Fresh}
 use Rattle.cells.specs.Stores.{cells_of, bound_of}
 use Rattle.entry.specs.Operands.{put_at}
 use Rattle.entry.specs.Loops.{Building}
-use Rattle.entry.proofs.StoreLaws.{store-fine}
-use Rattle.entry.proofs.StructureLaws.{building-none, building-more, taken_at}
+use Rattle.entry.proofs.StoreLaws.{store_fine}
+use Rattle.entry.proofs.StructureLaws.{building_none, building_more, taken_at}
 use Rattle.entry.proofs.steps.pass.Goals as goal
 
 pub loop-k-init : goal.loop-k-init
-loop-k-init c = building-none _ _ c.args.slots.now (put_at c.args.puts.now) _ (store-fine c.args.store.now) c.requires.inside
+loop-k-init c = building_none _ _ c.args.slots.now (put_at c.args.puts.now) _ (store_fine c.args.store.now) c.requires.inside
 
 pub loop-k-preserved : goal.loop-k-preserved
 loop-k-preserved c =
-    building-more _ _ c.args.slots.now (put_at c.args.puts.now) c.loop-k.k (cells_of c.loop-k.store) (cells_of c.make.new.store) _ _ c.loop-k.slots c.make.new.slots (get_or c.args.puts.now (1 + c.loop-k.k) (Fresh 0))
+    building_more _ _ c.args.slots.now (put_at c.args.puts.now) c.loop-k.k (cells_of c.loop-k.store) (cells_of c.make.new.store) _ _ c.loop-k.slots c.make.new.slots (get_or c.args.puts.now (1 + c.loop-k.k) (Fresh 0))
     refl
     (taken_at (put_at c.args.puts.now) c.args.n c.loop-k.k (length c.args.slots.now) (length c.loop-k.slots) (get_or c.args.puts.now (1 + c.loop-k.k) (Fresh 0)) refl c.loop-k.auto.slots (omega arith) c.requires.taken)
     c.loop-k.auto.slots c.make.ensures.cells c.make.ensures.slots c.make.ensures.trail c.loop-k.invariant

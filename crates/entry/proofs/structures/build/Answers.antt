@@ -2,12 +2,12 @@ use Rattle.std.proofs.Common.{◌≡◌, length, subst, arith}
 use Rattle.cells.specs.Stores.{cells_of, bound_of}
 use Rattle.entry.specs.Operands.{op_at}
 use Rattle.entry.specs.Loops.{Building}
-use Rattle.entry.proofs.StoreLaws.{store-fine}
-use Rattle.entry.proofs.StructureLaws.{building-none, building-more, taken_at}
+use Rattle.entry.proofs.StoreLaws.{store_fine}
+use Rattle.entry.proofs.StructureLaws.{building_none, building_more, taken_at}
 use Rattle.entry.proofs.structures.build.Goals as goal
 
 pub loop-k-init : goal.loop-k-init
-loop-k-init c = building-none _ _ c.args.slots.now (op_at c.args.code.now c.args.at) _ (store-fine c.args.store.now) c.requires.inside
+loop-k-init c = building_none _ _ c.args.slots.now (op_at c.args.code.now c.args.at) _ (store_fine c.args.store.now) c.requires.inside
 
 pub make-requires : goal.make-requires
 make-requires c = record {
@@ -18,7 +18,7 @@ make-requires c = record {
 
 pub loop-k-preserved : goal.loop-k-preserved
 loop-k-preserved c =
-    building-more _ _ c.args.slots.now (op_at c.args.code.now c.args.at) c.loop-k.k (cells_of c.loop-k.store) (cells_of c.make.new.store) _ _ c.loop-k.slots c.make.new.slots c.operand_at.result
+    building_more _ _ c.args.slots.now (op_at c.args.code.now c.args.at) c.loop-k.k (cells_of c.loop-k.store) (cells_of c.make.new.store) _ _ c.loop-k.slots c.make.new.slots c.operand_at.result
     c.operand_at.ensures
     (taken_at (op_at c.args.code.now c.args.at) c.args.n c.loop-k.k (length c.args.slots.now) (length c.loop-k.slots) c.operand_at.result c.operand_at.ensures c.loop-k.auto.slots (omega arith) c.requires.taken)
     c.loop-k.auto.slots c.make.ensures.cells c.make.ensures.slots c.make.ensures.trail c.loop-k.invariant

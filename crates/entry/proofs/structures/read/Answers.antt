@@ -3,15 +3,15 @@ use Rattle.cells.specs.Stores.{cells_of, bound_of}
 use Rattle.cells.proofs.GrowthLaws.{grew_trans}
 use Rattle.entry.specs.Operands.{op_at}
 use Rattle.entry.specs.Loops.{Reading}
-use Rattle.entry.proofs.StoreLaws.{store-few}
-use Rattle.entry.proofs.StructureLaws.{reading-none, reading-more, reading-fails, taken_at}
+use Rattle.entry.proofs.StoreLaws.{store_few}
+use Rattle.entry.proofs.StructureLaws.{reading_none, reading_more, reading_fails, taken_at}
 use Rattle.entry.proofs.structures.read.Goals as goal
 
 pub loop-k-init : goal.loop-k-init
-loop-k-init c = reading-none _ _ c.args.slots.now (op_at c.args.code.now c.args.at) c.args.first c.requires.inside
+loop-k-init c = reading_none _ _ c.args.slots.now (op_at c.args.code.now c.args.at) c.args.first c.requires.inside
 
 pub overflow_add-first : goal.overflow_add-first
-overflow_add-first c = let l = c.requires.cells c.loop-k.k (omega arith) in omega (arith, store-few c.args.store.now)
+overflow_add-first c = let l = c.requires.cells c.loop-k.k (omega arith) in omega (arith, store_few c.args.store.now)
 
 pub get-requires : goal.get-requires
 get-requires c = record {
@@ -28,14 +28,14 @@ returns-then-not-get c =
       grew = grew_trans c.loop-k.invariant.grew c.get.ensures.grew;
       long = omega (arith, c.loop-k.invariant.long, c.get.ensures.long);
       inside = c.get.ensures.inside;
-      result = reading-fails _ _ c.args.slots.now (op_at c.args.code.now c.args.at) c.args.first c.loop-k.k (c.requires.cells c.loop-k.k (omega arith)) _ _ c.loop-k.slots c.operand_at.result c.operand_at.ensures c.loop-k.auto.slots c.loop-k.invariant
+      result = reading_fails _ _ c.args.slots.now (op_at c.args.code.now c.args.at) c.args.first c.loop-k.k (c.requires.cells c.loop-k.k (omega arith)) _ _ c.loop-k.slots c.operand_at.result c.operand_at.ensures c.loop-k.auto.slots c.loop-k.invariant
           c.args.n (omega arith) told;
     }
 
 pub loop-k-preserved : goal.loop-k-preserved
 loop-k-preserved c =
     let told = rw c.if-not-get.false at c.get.ensures.result in
-    reading-more _ _ c.args.slots.now (op_at c.args.code.now c.args.at) c.args.first c.loop-k.k (c.requires.cells c.loop-k.k (omega arith)) _ _ c.loop-k.slots c.operand_at.result c.operand_at.ensures c.loop-k.auto.slots c.loop-k.invariant
+    reading_more _ _ c.args.slots.now (op_at c.args.code.now c.args.at) c.args.first c.loop-k.k (c.requires.cells c.loop-k.k (omega arith)) _ _ c.loop-k.slots c.operand_at.result c.operand_at.ensures c.loop-k.auto.slots c.loop-k.invariant
     _ _ c.get.new.slots c.get.ensures.grew c.get.ensures.long c.get.ensures.inside told
 
 pub returns : goal.returns

@@ -1,10 +1,10 @@
 use Rattle.std.proofs.Common.{sym, ◌∙◌, arith}
-use Rattle.heap.proofs.HeapLaws.{node-within}
+use Rattle.heap.proofs.HeapLaws.{node_within}
 use Rattle.cells.specs.Stores.{cells_of}
 use Rattle.cells.proofs.GrowthLaws.{grew_none, grew_trans}
 use Rattle.entry.specs.Operands.{op_at}
-use Rattle.entry.proofs.StoreLaws.{store-fine}
-use Rattle.entry.proofs.StructureLaws.{told-clash, told-read, told-write}
+use Rattle.entry.proofs.StoreLaws.{store_fine}
+use Rattle.entry.proofs.StructureLaws.{told_clash, told_read, told_write}
 use Rattle.entry.proofs.structures.structure.Goals as goal
 
 pub root-requires : goal.root-requires
@@ -15,7 +15,7 @@ returns-then-f-symbol c = record {
   grew = grew_none _ _;
   long = omega arith;
   inside = c.requires.inside;
-  result = told-clash (cells_of c.args.store.now) c.args.slots.now (op_at c.args.code.now c.args.at) c.args.symbol c.args.n c.args.y c.in-Some.i c.root.result c.in-Node.f c.in-Node.arity c.in-Node.first
+  result = told_clash (cells_of c.args.store.now) c.args.slots.now (op_at c.args.code.now c.args.at) c.args.symbol c.args.n c.args.y c.in-Some.i c.root.result c.in-Node.f c.in-Node.arity c.in-Node.first
       c.in-Some.is c.root.ensures (sym c.get.ensures ∙ c.in-Node.is) (λ e _. c.if-f-symbol.true e);
 }
 
@@ -24,7 +24,7 @@ returns-then-arity-n c = record {
   grew = grew_none _ _;
   long = omega arith;
   inside = c.requires.inside;
-  result = told-clash (cells_of c.args.store.now) c.args.slots.now (op_at c.args.code.now c.args.at) c.args.symbol c.args.n c.args.y c.in-Some.i c.root.result c.in-Node.f c.in-Node.arity c.in-Node.first
+  result = told_clash (cells_of c.args.store.now) c.args.slots.now (op_at c.args.code.now c.args.at) c.args.symbol c.args.n c.args.y c.in-Some.i c.root.result c.in-Node.f c.in-Node.arity c.in-Node.first
       c.in-Some.is c.root.ensures (sym c.get.ensures ∙ c.in-Node.is) (λ _ e. c.if-arity-n.true e);
 }
 
@@ -36,7 +36,7 @@ read-requires c = record {
   cells = λ j l. omega (
     arith,
     c.if-arity-n.false,
-    node-within (cells_of c.args.store.now) (store-fine c.args.store.now).closed c.root.result c.in-Node.f c.in-Node.arity c.in-Node.first (sym c.get.ensures ∙ c.in-Node.is) (omega (arith, c.if-arity-n.false)),
+    node_within (cells_of c.args.store.now) (store_fine c.args.store.now).closed c.root.result c.in-Node.f c.in-Node.arity c.in-Node.first (sym c.get.ensures ∙ c.in-Node.is) (omega (arith, c.if-arity-n.false)),
   );
   room = omega (arith, c.requires.room);
 }
@@ -46,7 +46,7 @@ returns-in-Node c = record {
   grew = c.read.ensures.grew;
   long = omega (arith, c.read.ensures.long);
   inside = c.read.ensures.inside;
-  result = told-read (cells_of c.args.store.now) c.args.slots.now (op_at c.args.code.now c.args.at) c.args.symbol c.args.n c.args.y c.in-Some.i c.root.result c.in-Node.f c.in-Node.arity c.in-Node.first
+  result = told_read (cells_of c.args.store.now) c.args.slots.now (op_at c.args.code.now c.args.at) c.args.symbol c.args.n c.args.y c.in-Some.i c.root.result c.in-Node.f c.in-Node.arity c.in-Node.first
       c.in-Some.is c.root.ensures (sym c.get.ensures ∙ c.in-Node.is) c.if-f-symbol.false c.if-arity-n.false _ c.read.new.slots c.read.result c.read.ensures.result;
 }
 
@@ -55,5 +55,5 @@ returns c = record {
   grew = grew_trans c.write-place.ensures.grew c.get_slot.ensures.grew;
   long = omega (arith, c.write-place.ensures.long, c.get_slot.ensures.long);
   inside = c.get_slot.ensures.inside;
-  result = told-write _ _ _ c.args.slots.now c.write-place.new.slots c.get_slot.new.slots (op_at c.args.code.now c.args.at) c.args.symbol c.args.n c.args.y c.write-place.result c.get_slot.result c.write-place.ensures.result c.get_slot.ensures.result;
+  result = told_write _ _ _ c.args.slots.now c.write-place.new.slots c.get_slot.new.slots (op_at c.args.code.now c.args.at) c.args.symbol c.args.n c.args.y c.write-place.result c.get_slot.result c.write-place.ensures.result c.get_slot.ensures.result;
 }

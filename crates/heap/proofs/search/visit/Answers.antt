@@ -2,7 +2,7 @@ use Rattle.std.proofs.Common.{◌≡◌, ◌<◌, ◌≤◌, false, eqb, length,
 use Rattle.std.proofs.lemmas.List.{length-take-le, length-map}
 use Rattle.stack.proofs.Pushes.{pushed}
 use Rattle.heap.specs.Marks.{marked}
-use Rattle.heap.proofs.MarkLaws.{visit-more, visit-less, visit-all, visit-room}
+use Rattle.heap.proofs.MarkLaws.{visit_more, visit_less, visit_all, visit_room}
 use Rattle.heap.proofs.search.visit.Goals as goal
 use Rattle.heap.proofs.search.visit.Goals.{then-not-has, else-not-has}
 
@@ -24,19 +24,19 @@ loop-k-preserved c =
             c.requires.room,
             length-take-le stack.len stack.items.now stack.ok,
             length-take-le first.len first.items.now first.ok,
-            visit-room (length first.items.now) c.loop-k.invariant.1 (omega (arith, c.requires.room, length-take-le first.len first.items.now first.ok)) lt unmarked,
+            visit_room (length first.items.now) c.loop-k.invariant.1 (omega (arith, c.requires.room, length-take-le first.len first.items.now first.ok)) lt unmarked,
           ) in
           let p = pushed _ _ w.push.result stack.len (length stack.items.now) w.push.ensures.value room w.push.ensures.cases in (
             ap (λ x. length x.items.now) w.stack-is ∙ w.push.ensures.room ∙ c.loop-k.invariant.0,
-            visit-more c.loop-k.invariant.1 lo lt unmarked (ap (λ x. marked x.stamps x.last) w.marks-is ∙ w.put.ensures) (ap (λ x. take x.len x.items.now) w.stack-is ∙ p.1),
+            visit_more c.loop-k.invariant.1 lo lt unmarked (ap (λ x. marked x.stamps x.last) w.marks-is ∙ w.put.ensures) (ap (λ x. take x.len x.items.now) w.stack-is ∙ p.1),
           )
       | else-not-has w ↦ (
         ap (λ x. length x.items.now) w.stack-is ∙ c.loop-k.invariant.0,
-        visit-less c.loop-k.invariant.1 lo (sym c.has.ensures ∙ w.if-not-has.false) (ap (λ x. marked x.stamps x.last) w.marks-is) (ap (λ x. take x.len x.items.now) w.stack-is),
+        visit_less c.loop-k.invariant.1 lo (sym c.has.ensures ∙ w.if-not-has.false) (ap (λ x. marked x.stamps x.last) w.marks-is) (ap (λ x. take x.len x.items.now) w.stack-is),
       )
     ]
 
 pub returns : goal.returns
 returns c =
     let done : c.loop-k.k ≡ c.args.hi = omega arith in
-    record { room = c.loop-k.invariant.0; after = visit-all done c.loop-k.invariant.1 }
+    record { room = c.loop-k.invariant.0; after = visit_all done c.loop-k.invariant.1 }

@@ -1,5 +1,5 @@
-use Rattle.horn.proofs.Order.{total-order}
+use Rattle.horn.proofs.Order.{total_order}
 use Rattle.horn.proofs.theorems.order_is_total.Goals as goal
 
 pub returns : goal.returns
-returns c = total-order
+returns c = total_order

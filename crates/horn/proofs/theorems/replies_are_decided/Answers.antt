@@ -1,6 +1,6 @@
 use Rattle.horn.specs.Walk.{deck_tree}
-use Rattle.horn.proofs.Unique.{one-reply}
+use Rattle.horn.proofs.Unique.{one_reply}
 use Rattle.horn.proofs.theorems.replies_are_decided.Goals as goal
 
 pub returns : goal.returns
-returns c deck q fuel = one-reply (deck_tree deck q) fuel
+returns c deck q fuel = one_reply (deck_tree deck q) fuel

@@ -2,15 +2,15 @@ use Rattle.std.proofs.Common.{◌≡◌, ℕ, ◌-◌, true, leb, List, map, len
 use Rattle.code.specs.Tests.{every}
 use Rattle.image.specs.Said.{said}
 use Rattle.image.specs.Symbols.{symbols_of, after_symbols, arity}
-use Rattle.image.proofs.SymbolLaws.{after-length}
-use Rattle.image.proofs.CheckLaws.{low-arities, alone, body-done}
+use Rattle.image.proofs.SymbolLaws.{after_length}
+use Rattle.image.proofs.CheckLaws.{low_arities, alone, body_done}
 use Rattle.image.proofs.checker.check_body.Goals as goal
 
 pub overflow_sub-count : goal.overflow_sub-count
 overflow_sub-count c =
     let ws = c.args.words.now in
     let l : length c.in_ok-left.left.now ≡ length (after_symbols c.args.symbols ws) = ap length c.in_ok-left.ensures.rest in
-    omega (arith, after-length c.args.symbols ws)
+    omega (arith, after_length c.args.symbols ws)
 
 pub check_layout-requires : goal.check_layout-requires
 check_layout-requires c =
@@ -23,11 +23,11 @@ check_layout-requires c =
       few = c.requires.few;
       small = c.requires.small;
       arities = e ∙ ap (map arity) (sym (alone s (length ws - length left) ws left c.in_ok-left.ensures.rest refl));
-      low = subst (λ (l : List ℕ). every (λ a. leb a 8) l ≡ true) (sym e) (low-arities (symbols_of s ws) c.in_ok-left.ensures.fault);
+      low = subst (λ (l : List ℕ). every (λ a. leb a 8) l ≡ true) (sym e) (low_arities (symbols_of s ws) c.in_ok-left.ensures.fault);
     }
 
 pub returns : goal.returns
 returns c =
     let ws = c.args.words.now in
     let left = c.in_ok-left.left.now in
-    body-done c.args.symbols c.args.clauses c.args.size (length ws - length left) ws left (said c.check_layout.result) c.in_ok-left.ensures.rest refl c.in_ok-left.ensures.fault c.check_layout.ensures
+    body_done c.args.symbols c.args.clauses c.args.size (length ws - length left) ws left (said c.check_layout.result) c.in_ok-left.ensures.rest refl c.in_ok-left.ensures.fault c.check_layout.ensures

@@ -4,8 +4,8 @@ use Rattle.lines.specs.Fields.{after}
 use Rattle.lines.specs.Lines.{check}
 use Rattle.lines.specs.Kinds.{heads, least}
 use Rattle.lines.specs.Said.{said, Counted}
-use Rattle.lines.proofs.Readings.{read_first, read-body, body-none, body-wrong, body-goals}
-use Rattle.lines.proofs.Counts.{goals-are, weight_is, tokens-are}
+use Rattle.lines.proofs.Readings.{read_first, read_body, body_none, body_wrong, body_goals}
+use Rattle.lines.proofs.Counts.{goals_are, weight_is, tokens_are}
 use Rattle.lines.proofs.reader.read.Goals as goal
 
 pub returns-then-not-begins_as : goal.returns-then-not-begins_as
@@ -18,13 +18,13 @@ pub returns-in_default : goal.returns-in_default
 returns-in_default c =
     let line = c.args.line.now in
     let lo : 0 < length line = search rules in
-    record { value = sym (read-body c.args.kind line c.run_len-n.result lo c.if-line-gt-LINE_LIMIT.false c.run_len-n.ensures.value (sym c.if-not-begins_as.ensures) ∙ body-none c.args.kind _ c.in_default.ensures.value); counted = tt }
+    record { value = sym (read_body c.args.kind line c.run_len-n.result lo c.if-line-gt-LINE_LIMIT.false c.run_len-n.ensures.value (sym c.if-not-begins_as.ensures) ∙ body_none c.args.kind _ c.in_default.ensures.value); counted = tt }
 
 pub returns-in_default-goals_in : goal.returns-in_default-goals_in
 returns-in_default-goals_in c =
     let line = c.args.line.now in
     let lo : 0 < length line = search rules in
-    record { value = sym (read-body c.args.kind line c.run_len-n.result lo c.if-line-gt-LINE_LIMIT.false c.run_len-n.ensures.value (sym c.if-not-begins_as.ensures) ∙ body-wrong c.args.kind _ c.in-Some.second.now _ c.in-Some.ensures.value (sym c.in_default-goals_in.ensures.value)); counted = tt }
+    record { value = sym (read_body c.args.kind line c.run_len-n.result lo c.if-line-gt-LINE_LIMIT.false c.run_len-n.ensures.value (sym c.if-not-begins_as.ensures) ∙ body_wrong c.args.kind _ c.in-Some.second.now _ c.in-Some.ensures.value (sym c.in_default-goals_in.ensures.value)); counted = tt }
 
 pub returns-in_err-weight : goal.returns-in_err-weight
 returns-in_err-weight c =
@@ -40,8 +40,8 @@ returns-in_err-weight c =
     record {
       value =
           ap said is
-          ∙ sym (read-body k line c.run_len-n.result lo c.if-line-gt-LINE_LIMIT.false c.run_len-n.ensures.value (sym c.if-not-begins_as.ensures)
-          ∙ body-goals k _ c.in-Some.second.now gs c.in-Some.ensures.value d (Err e) (sym c.in-Some-goals_in.ensures.value) checks);
+          ∙ sym (read_body k line c.run_len-n.result lo c.if-line-gt-LINE_LIMIT.false c.run_len-n.ensures.value (sym c.if-not-begins_as.ensures)
+          ∙ body_goals k _ c.in-Some.second.now gs c.in-Some.ensures.value d (Err e) (sym c.in-Some-goals_in.ensures.value) checks);
       counted = subst (λ r. IfOk r (Counted k)) (sym is) tt;
     }
 
@@ -56,7 +56,7 @@ returns c =
     let checks : check (heads k + d) 0 (least k) 0 3 gs ≡ Ok w = ap₂ (λ h l. check (h + d) 0 l 0 3 gs) (sym c.heads.ensures) (sym c.least.ensures) ∙ sym c.in_ok-weight.ensures in
     record {
       value =
-          sym (read-body k line c.run_len-n.result lo c.if-line-gt-LINE_LIMIT.false c.run_len-n.ensures.value (sym c.if-not-begins_as.ensures)
-          ∙ body-goals k _ c.in-Some.second.now gs c.in-Some.ensures.value d (Ok w) (sym c.in-Some-goals_in.ensures.value) checks);
-      counted = record { kind = refl; goals = goals-are k d w gs checks; weight = weight_is k d w gs checks; tokens = tokens-are k d w gs checks };
+          sym (read_body k line c.run_len-n.result lo c.if-line-gt-LINE_LIMIT.false c.run_len-n.ensures.value (sym c.if-not-begins_as.ensures)
+          ∙ body_goals k _ c.in-Some.second.now gs c.in-Some.ensures.value d (Ok w) (sym c.in-Some-goals_in.ensures.value) checks);
+      counted = record { kind = refl; goals = goals_are k d w gs checks; weight = weight_is k d w gs checks; tokens = tokens_are k d w gs checks };
     }

@@ -1,9 +1,9 @@
 use Rattle.std.proofs.Common.{take, refl, arith}
-use Rattle.matching.proofs.TrailLaws.{bind-room, kept-one}
+use Rattle.matching.proofs.TrailLaws.{bind_room, kept_one}
 use Rattle.matching.proofs.binding.bind.Goals as goal
 
 pub push-requires : goal.push-requires
-push-requires c = omega (arith, bind-room c.args.cells.now c.args.i c.requires.within c.requires.root, c.requires.room)
+push-requires c = omega (arith, bind_room c.args.cells.now c.args.i c.requires.within c.requires.root, c.requires.room)
 
 pub returns : goal.returns
 returns c =
@@ -11,5 +11,5 @@ returns c =
     let after = c.push.new.self in
     record {
       after = refl;
-      kept = kept-one c.args.cells.now (take trail.len trail.items) (take after.len after.items) c.args.i c.args.j c.requires.within c.requires.root c.push.ensures;
+      kept = kept_one c.args.cells.now (take trail.len trail.items) (take after.len after.items) c.args.i c.args.j c.requires.within c.requires.root c.push.ensures;
     }

@@ -1,6 +1,6 @@
 use Rattle.std.proofs.Common.{◌<◌, length, ◌∙◌, arith}
 use Rattle.stack.proofs.Pushes.{pushed}
-use Rattle.matching.proofs.RowLaws.{rows-push}
+use Rattle.matching.proofs.RowLaws.{rows_push}
 use Rattle.matching.proofs.pairs.push_rows.Goals as goal
 
 pub loop-k-preserved : goal.loop-k-preserved
@@ -11,5 +11,5 @@ loop-k-preserved c =
     let p = pushed _ _ c.push.result stack.len (length stack.items.now) c.push.ensures.value room c.push.ensures.cases in (
       c.push.ensures.room ∙ inv.0,
       omega (arith, p.0, inv.1),
-      rows-push _ _ _ c.args.i c.args.j c.loop-k.k inv.2 p.1,
+      rows_push _ _ _ c.args.i c.args.j c.loop-k.k inv.2 p.1,
     )

@@ -3,8 +3,8 @@ use Rattle.std.proofs.lemmas.List.{length-take-le, nil_from_length}
 use Rattle.stack.proofs.Pushes.{pushed}
 use Rattle.heap.specs.Heaps.{Sound, Closed}
 use Rattle.matching.specs.Unifies.{pair}
-use Rattle.matching.proofs.TrailLaws.{kept-none, kept_trans}
-use Rattle.matching.proofs.JoinLaws.{pair_inside, fewer-pairs, turn-same, turn-joined, turn-apart, unifying-none, unifying-all}
+use Rattle.matching.proofs.TrailLaws.{kept_none, kept_trans}
+use Rattle.matching.proofs.JoinLaws.{pair_inside, fewer_pairs, turn_same, turn_joined, turn_apart, unifying_none, unifying_all}
 use Rattle.matching.proofs.unifier.unify.Goals as goal
 
 pub loop-pair-init : goal.loop-pair-init
@@ -13,9 +13,9 @@ loop-pair-init c =
     let none : take new.len new.items.now ≡ [] = nil_from_length _ (length-take-le new.len new.items.now new.ok ∙ c.over-stack.ensures.empty) in
     let room : new.len < length new.items.now = omega (arith, c.over-stack.ensures.empty, c.over-stack.ensures.room, c.requires.pairs_room) in
     let p = pushed _ _ c.push.result new.len (length new.items.now) c.push.ensures.value room c.push.ensures.cases in (
-      unifying-none c.args.cells.now c.args.a c.args.b _ c.requires.sound c.requires.closed c.requires.a_within c.requires.b_within
+      unifying_none c.args.cells.now c.args.a c.args.b _ c.requires.sound c.requires.closed c.requires.a_within c.requires.b_within
           (p.1 ∙ ap (λ x. x ++ pair c.args.a c.args.b ∷ []) none),
-      kept-none _ _,
+      kept_none _ _,
       refl,
     )
 
@@ -55,7 +55,7 @@ join-requires c =
       visits_room = omega (arith, c.loop-pair.auto.visits, c.requires.visits_room);
       pairs_room = omega (
         arith,
-        fewer-pairs _ c.in-Some.pair c.root-i.result c.root-j.result c.in-Some.ensures.cases.1 u c.root-i.ensures c.root-j.ensures,
+        fewer_pairs _ c.in-Some.pair c.root-i.result c.root-j.result c.in-Some.ensures.cases.1 u c.root-i.ensures c.root-j.ensures,
         length-take-le rest.len rest.items.now rest.ok,
         ap length c.in-Some.ensures.same,
         c.loop-pair.invariant.2,
@@ -73,7 +73,7 @@ returns-then-not-join c =
       sound = subst Sound (sym failed.0) u.sound;
       closed = subst Closed (sym failed.0) u.closed;
       kept = kept_trans c.loop-pair.invariant.1 c.join.ensures.kept;
-      result = turn-apart _ c.in-Some.pair c.root-i.result c.root-j.result c.in-Some.ensures.cases.1 u c.root-i.ensures c.root-j.ensures failed.1;
+      result = turn_apart _ c.in-Some.pair c.root-i.result c.root-j.result c.in-Some.ensures.cases.1 u c.root-i.ensures c.root-j.ensures failed.1;
     }
 
 pub loop-pair-smaller-else-not-join : goal.loop-pair-smaller-else-not-join
@@ -87,14 +87,14 @@ pub loop-pair-preserved-else-not-join : goal.loop-pair-preserved-else-not-join
 loop-pair-preserved-else-not-join c =
     let u = c.loop-pair.invariant.0 in
     let joined = rw c.if-not-join.false at c.join.ensures.result in (
-      turn-joined _ c.in-Some.pair c.root-i.result c.root-j.result c.in-Some.ensures.cases.1 u c.root-i.ensures c.root-j.ensures joined,
+      turn_joined _ c.in-Some.pair c.root-i.result c.root-j.result c.in-Some.ensures.cases.1 u c.root-i.ensures c.root-j.ensures joined,
       kept_trans c.loop-pair.invariant.1 c.join.ensures.kept,
       c.join.ensures.room ∙ ap length c.in-Some.ensures.same ∙ c.loop-pair.invariant.2,
     )
 
 pub loop-pair-preserved : goal.loop-pair-preserved
 loop-pair-preserved c = (
-  turn-same _ c.in-Some.pair c.root-i.result c.root-j.result c.in-Some.ensures.cases.1 c.loop-pair.invariant.0 c.root-i.ensures c.root-j.ensures c.if-i-j.false,
+  turn_same _ c.in-Some.pair c.root-i.result c.root-j.result c.in-Some.ensures.cases.1 c.loop-pair.invariant.0 c.root-i.ensures c.root-j.ensures c.if-i-j.false,
   c.loop-pair.invariant.1,
   ap length c.in-Some.ensures.same ∙ c.loop-pair.invariant.2,
 )
@@ -107,5 +107,5 @@ returns c =
       sound = u.sound;
       closed = u.closed;
       kept = c.loop-pair.invariant.1;
-      result = unifying-all (length-take-le stack.len stack.items.now stack.ok ∙ c.in_default.ensures.cases.0) u;
+      result = unifying_all (length-take-le stack.len stack.items.now stack.ok ∙ c.in_default.ensures.cases.0) u;
     }

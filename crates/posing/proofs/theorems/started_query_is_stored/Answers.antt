@@ -1,5 +1,5 @@
-use Rattle.posing.proofs.StoredLaws.{start-stores}
+use Rattle.posing.proofs.StoredLaws.{start_stores}
 use Rattle.posing.proofs.theorems.started_query_is_stored.Goals as goal
 
 pub returns : goal.returns
-returns c = start-stores
+returns c = start_stores

@@ -4,11 +4,11 @@ use Rattle.lines.specs.Tokens.{word}
 use Rattle.symbol_table.specs.Numbers.{note_words}
 use Rattle.symbol_table.specs.Tables.{signature}
 use Rattle.symbol_table.specs.Noting.{Fines, Begins}
-use Rattle.symbol_table.proofs.NoteLaws.{begins-self, begins-then, word-begins, full-words}
+use Rattle.symbol_table.proofs.NoteLaws.{begins_self, begins_then, word_begins, full_words}
 use Rattle.symbol_table.proofs.noting.note_symbols.Goals as goal
 
 pub loop-token-init : goal.loop-token-init
-loop-token-init c = (refl, c.requires, begins-self _)
+loop-token-init c = (refl, c.requires, begins_self _)
 
 pub note_token-requires : goal.note_token-requires
 note_token-requires c = (subst Fines c.in-Some.ensures.value c.loop-token.invariant.1).0
@@ -19,7 +19,7 @@ returns-then-not-note_token c =
     record {
       noted = λ e. (let z : ◌≡◌ {A = ℕ} 0 1 = cc in absurd (omega arith));
       full = λ e.
-          (let all = full-words (signature c.loop-token.symbols) (word c.in-Some.token) (words_left c.next_token.new.self) 256 f.0 in
+          (let all = full_words (signature c.loop-token.symbols) (word c.in-Some.token) (words_left c.next_token.new.self) 256 f.0 in
           omega (arith, ap length (sym (ap (note_words (signature c.loop-token.symbols)) c.in-Some.ensures.value) ∙ c.loop-token.invariant.0)));
       begins = subst (Begins (signature c.args.symbols.now)) (sym f.1) c.loop-token.invariant.2;
     }
@@ -29,7 +29,7 @@ loop-token-preserved c =
     let n = c.note_token.ensures.noted c.if-not-note_token.false in (
       ap (λ s. note_words s (words_left c.next_token.new.self)) n ∙ sym (ap (note_words (signature c.loop-token.symbols)) c.in-Some.ensures.value) ∙ c.loop-token.invariant.0,
       (subst Fines c.in-Some.ensures.value c.loop-token.invariant.1).1,
-      subst (Begins (signature c.args.symbols.now)) (sym n) (begins-then c.loop-token.invariant.2 (word-begins (signature c.loop-token.symbols) (word c.in-Some.token))),
+      subst (Begins (signature c.args.symbols.now)) (sym n) (begins_then c.loop-token.invariant.2 (word_begins (signature c.loop-token.symbols) (word c.in-Some.token))),
     )
 
 pub returns : goal.returns

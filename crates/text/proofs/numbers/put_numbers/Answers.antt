@@ -1,7 +1,7 @@
 use Rattle.std.proofs.Common.{◌≡◌, ◌+◌, ◌<◌, length, get_or, set, decimal, sym, ap, ◌∙◌, ap₂, arith, length-set, rules}
 use Rattle.text.specs.Buffers.{wrote}
-use Rattle.text.proofs.Wrote.{wrote_none, length-wrote}
-use Rattle.text.proofs.NumberLaws.{left, left-none, length_more, put-more}
+use Rattle.text.proofs.Wrote.{wrote_none, length_wrote}
+use Rattle.text.proofs.NumberLaws.{left, left_none, length_more, put_more}
 use Rattle.text.proofs.numbers.put_numbers.Goals as goal
 
 pub bounds-out-end : goal.bounds-out-end
@@ -27,14 +27,14 @@ loop-n-preserved c =
     let size = length_more ns i lt in
     let is = c.put_decimal-end.ensures.after in
     let at = c.put_decimal-end.ensures.end in
-    let long : length c.put_decimal-end.new.out ≡ length out = ap length is ∙ length-wrote (set out end 44) (end + 1) d (omega (arith, size, c.loop-n.invariant.0, length-set out end 44)) ∙ length-set out end 44 in (
+    let long : length c.put_decimal-end.new.out ≡ length out = ap length is ∙ length_wrote (set out end 44) (end + 1) d (omega (arith, size, c.loop-n.invariant.0, length-set out end 44)) ∙ length-set out end 44 in (
       omega (arith, at, size, long, c.loop-n.invariant.0),
-      ap₂ (λ o k. wrote o k (left ns (i + 1))) is at ∙ put-more ns i out end lt c.loop-n.invariant.0 ∙ c.loop-n.invariant.1,
+      ap₂ (λ o k. wrote o k (left ns (i + 1))) is at ∙ put_more ns i out end lt c.loop-n.invariant.0 ∙ c.loop-n.invariant.1,
     )
 
 pub returns : goal.returns
 returns c =
     let ns = c.args.numbers.now in
     sym (wrote_none c.loop-n.out c.loop-n.end)
-    ∙ ap (wrote c.loop-n.out c.loop-n.end) (sym (left-none ns c.loop-n.n-index (search rules)))
+    ∙ ap (wrote c.loop-n.out c.loop-n.end) (sym (left_none ns c.loop-n.n-index (search rules)))
     ∙ c.loop-n.invariant.1

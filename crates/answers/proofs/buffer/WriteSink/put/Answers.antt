@@ -1,7 +1,7 @@
 use Rattle.std.proofs.Common.{◌+◌, ◌<◌, ◌≤◌, [], ◌∷◌, length, set, ◌∙◌, ap₂, arith, length-set}
 use Rattle.std.proofs.lemmas.List.{length_push}
 use Rattle.text.specs.Buffers.{wrote}
-use Rattle.text.proofs.Wrote.{wrote_one, wrote-more, length-wrote}
+use Rattle.text.proofs.Wrote.{wrote_one, wrote_more, length_wrote}
 use Rattle.answers.proofs.buffer.WriteSink.put.Goals as goal
 
 pub returns-then-len-out : goal.returns-then-len-out
@@ -16,11 +16,11 @@ returns c = record {
       let more = length_push bs b in
       let lt : len < length out = omega arith in
       let small : s.len + length bs ≤ length o = omega (arith, h.size, h.len) in
-      let lt' : s.len + length bs < length (wrote o s.len bs) = omega (arith, h.size, h.len, length-wrote o s.len bs small) in
+      let lt' : s.len + length bs < length (wrote o s.len bs) = omega (arith, h.size, h.len, length_wrote o s.len bs small) in
       record {
         size = length-set out len b ∙ h.size;
         len = omega (arith, h.len, more);
         fits = omega (arith, h.size, h.len, more);
-        after = ap₂ (λ xs k. set xs k b) h.after h.len ∙ wrote_one (wrote o s.len bs) (s.len + length bs) b lt' ∙ wrote-more o s.len bs (b ∷ []) small;
+        after = ap₂ (λ xs k. set xs k b) h.after h.len ∙ wrote_one (wrote o s.len bs) (s.len + length bs) b lt' ∙ wrote_more o s.len bs (b ∷ []) small;
       };
 }

@@ -1,5 +1,5 @@
-use Rattle.cells.proofs.StateLaws.{sane-none}
+use Rattle.cells.proofs.StateLaws.{sane_none}
 use Rattle.cells.proofs.store.Store.new.Goals as goal
 
 pub invariant_of-result : goal.invariant_of-result
-invariant_of-result c = record { sane = ∣ sane-none c.new.result c.new.ensures ∣₁ }
+invariant_of-result c = record { sane = ∣ sane_none c.new.result c.new.ensures ∣₁ }

@@ -2,14 +2,14 @@ use Rattle.std.proofs.Common.{refl, arith}
 use Rattle.heap.specs.declared.cell.Cell.TheVariants.{Ref}
 use Rattle.cells.proofs.Seals.{unsealed}
 use Rattle.cells.proofs.GrowthLaws.{grew_by}
-use Rattle.cells.proofs.StateLaws.{used-length}
+use Rattle.cells.proofs.StateLaws.{used_length}
 use Rattle.cells.proofs.store.Store.push_ref.Goals as goal
 
 pub push_cell-requires : goal.push_cell-requires
 push_cell-requires c =
     let s = c.args.self.now in
     let sane = unsealed s.cells s.top s.trail s.sane in
-    let long = used-length s.cells s.top s.trail sane in
+    let long = used_length s.cells s.top s.trail sane in
     record { sane = sane; older = λ j h. omega (arith, h, c.requires, long); spare = omega (arith, sane.fine.arguments, long) }
 
 pub invariant_of-self : goal.invariant_of-self

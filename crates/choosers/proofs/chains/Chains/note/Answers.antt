@@ -1,6 +1,6 @@
 use Rattle.std.proofs.Common.{get_or, refl, ◌∙◌, rules}
 use Rattle.std.proofs.lemmas.List.{length-set}
-use Rattle.choosers.proofs.NoteLaws.{chain-new, chain-linked}
+use Rattle.choosers.proofs.NoteLaws.{chain_new, chain_linked}
 use Rattle.choosers.proofs.RowLaws.{taken, refused, rows_more, rows_same}
 use Rattle.choosers.proofs.chains.Chains.note.Goals as goal
 
@@ -14,7 +14,7 @@ returns-then-at-ge-LIMIT c =
 
 pub invariant_of-self : goal.invariant_of-self
 invariant_of-self c =
-    let s = c.args.self.now in record { within = search rules; whole = length-set s.rows s.len c.args.row ∙ s.whole; chained = chain-linked s.len s.rows s.next s.first s.last c.args.row (get_or s.last c.args.row.symbol 0) s.whole (search rules) (search rules) (search rules) (search rules) refl (search rules) (search rules) s.chained }
+    let s = c.args.self.now in record { within = search rules; whole = length-set s.rows s.len c.args.row ∙ s.whole; chained = chain_linked s.len s.rows s.next s.first s.last c.args.row (get_or s.last c.args.row.symbol 0) s.whole (search rules) (search rules) (search rules) (search rules) refl (search rules) (search rules) s.chained }
 
 pub returns-then-before-at : goal.returns-then-before-at
 returns-then-before-at c =
@@ -26,7 +26,7 @@ returns-then-before-at c =
 
 pub invariant_of-self-2 : goal.invariant_of-self-2
 invariant_of-self-2 c =
-    let s = c.args.self.now in record { within = search rules; whole = length-set s.rows s.len c.args.row ∙ s.whole; chained = chain-new s.len s.rows s.next s.first s.last c.args.row (get_or s.last c.args.row.symbol 0) s.whole (search rules) (search rules) (search rules) (search rules) refl (search rules) (search rules) s.chained }
+    let s = c.args.self.now in record { within = search rules; whole = length-set s.rows s.len c.args.row ∙ s.whole; chained = chain_new s.len s.rows s.next s.first s.last c.args.row (get_or s.last c.args.row.symbol 0) s.whole (search rules) (search rules) (search rules) (search rules) refl (search rules) (search rules) s.chained }
 
 pub returns : goal.returns
 returns c =
