@@ -20,6 +20,7 @@ FIRST = {  # private lemmas whose names would fall together with a definition's
     "crates/code/proofs/UseLaws.antt": {"each_at": "each_at-word"},
     "crates/image/proofs/ImageLaws.antt": {"laid_out": "laid_out-parts"},
 }
+PATHS = "./crates/code/proofs/key/"  # here the new names are in use already, but only in paths, as those of functions
 HUMP = re.compile(r"(?<=[a-z0-9])(?=[A-Z])")
 
 
@@ -96,7 +97,7 @@ def turned(turn, respell_first):
         parts = list(pieces(path, now))
         words = {w for part, code in parts if code for w in WORD.findall(part)}
         if path.endswith(".antt"):
-            met += [f"{path}: {w} and {turn(w)}" for w in sorted(words) if turn(w) != w and turn(w) in words and "/key/" not in path]
+            met += [f"{path}: {w} and {turn(w)}" for w in sorted(words) if turn(w) != w and turn(w) in words and not path.startswith(PATHS)]
         now = "".join(WORD.sub(lambda m: turn(m.group()), part) if code else part for part, code in parts)
         if now != text:
             written.append((path, now))
