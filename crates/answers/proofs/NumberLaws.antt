@@ -1,5 +1,5 @@
 -- A table of numbers by first appearance.
-use Rattle.std.proofs.Common.{◌≡◌, ℕ, zero, suc, ◌+◌, ◌<◌, ◌≤◌, Bool, true, false, cond, eqb, ltb, ◌⊎◌, List, [], ◌∷◌, ◌++◌, length, get_or, set, sym, refl, ap, ◌∙◌, subst, inl, inr, ⊎_elim, arith}
+use Rattle.std.proofs.Common.{◌≡◌, ℕ, zero, suc, ◌+◌, ◌<◌, ◌≤◌, Bool, true, false, cond, eqb, ltb, ◌⊎◌, List, [], ◌∷◌, ◌++◌, length, get_or, slice_index_or, set, replicate, Option, Some, None, sym, refl, ap, ◌∙◌, subst, inl, inr, ⊎_elim, arith}
 use Rattle.std.proofs.lemmas.List.{length-append, get_or-set_same, get_or-set_other, length-set}
 use Rattle.std.proofs.lemmas.Bool.{cond-true, cond-false, eq-eqb, ne_eqb, lt-ltb, le-ltb, cases_lt, cases_eq}
 use Rattle.horn.specs.Answers.{place, note}
@@ -49,25 +49,25 @@ note_old v (u ∷ us) h = go (note_old v us) (eqb u v) h
     go ih true k = refl
     go ih false k = ap (λ (z : List ℕ). u ∷ z) (ih (omega arith))
 
-given_old : (us : List ℕ) (v : ℕ) → place eqb v us < length us → given us v ≡ suc (place eqb v us)
+given_old : (us : List ℕ) (v : ℕ) → place eqb v us < length us → given us v ≡ Some (suc (place eqb v us))
 given_old us v h = cond-true (ltb (place eqb v us) (length us)) _ _ (lt-ltb (place eqb v us) (length us) h)
 
-given_none : (us : List ℕ) (v : ℕ) → length us ≤ place eqb v us → given us v ≡ 0
+given_none : (us : List ℕ) (v : ℕ) → length us ≤ place eqb v us → given us v ≡ None
 given_none us v h = cond-false (ltb (place eqb v us) (length us)) _ _ (le-ltb (place eqb v us) (length us) h)
 
-module _ (v : ℕ) (us numbers : List ℕ) (seen : ℕ) (within : v < length numbers) (h : Numbered us numbers seen) where
-  pub known : 0 < get_or numbers v 0 → Numbered (note eqb v us) numbers seen × (get_or numbers v 0 ≡ suc (place eqb v us))
-  known some = go (cases_lt (place eqb v us) (length us))
+module _ (v : ℕ) (us : List ℕ) (numbers : List (Option ℕ)) (seen : ℕ) (within : v < length numbers) (h : Numbered us numbers seen) where
+  pub known : (n : ℕ) → get_or numbers v None ≡ Some n → Numbered (note eqb v us) numbers seen × (n ≡ suc (place eqb v us))
+  known n some = go (cases_lt (place eqb v us) (length us))
     where
-      go : (place eqb v us < length us) ⊎ (length us ≤ place eqb v us) → Numbered (note eqb v us) numbers seen × (get_or numbers v 0 ≡ suc (place eqb v us))
-      go (inl l) = (subst (λ ws. Numbered ws numbers seen) (sym (note_old v us l)) h, h.each v within ∙ given_old us v l)
-      go (inr l) = absurd (omega (arith, h.each v within, given_none us v l))
+      go : (place eqb v us < length us) ⊎ (length us ≤ place eqb v us) → Numbered (note eqb v us) numbers seen × (n ≡ suc (place eqb v us))
+      go (inl l) = (subst (λ ws. Numbered ws numbers seen) (sym (note_old v us l)) h, cc (h.each v within, given_old us v l))
+      go (inr l) = absurd (cc (h.each v within, given_none us v l))
 
-  fresh_place : get_or numbers v 0 ≤ 0 → place eqb v us ≡ length us
+  fresh_place : get_or numbers v None ≡ None → place eqb v us ≡ length us
   fresh_place none = go (cases_lt (place eqb v us) (length us))
     where
       go : (place eqb v us < length us) ⊎ (length us ≤ place eqb v us) → place eqb v us ≡ length us
-      go (inl l) = absurd (omega (arith, h.each v within, given_old us v l))
+      go (inl l) = absurd (cc (h.each v within, given_old us v l))
       go (inr l) = omega (arith, place_le v us)
 
   given_other : place eqb v us ≡ length us → (w : ℕ) → (v ≡ w → ⊥) → given (us ++ v ∷ []) w ≡ given us w
@@ -76,52 +76,53 @@ module _ (v : ℕ) (us numbers : List ℕ) (seen : ℕ) (within : v < length num
       go : (place eqb w us < length us) ⊎ (length us ≤ place eqb w us) → given (us ++ v ∷ []) w ≡ given us w
       go (inl l) =
           let e = place_front w us (v ∷ []) l in
-          given_old (us ++ v ∷ []) w (simp length-append (omega arith)) ∙ ap suc e ∙ sym (given_old us w l)
+          given_old (us ++ v ∷ []) w (simp length-append (omega arith)) ∙ ap (λ k. Some (suc k)) e ∙ sym (given_old us w l)
       go (inr l) =
           let q : place eqb w us ≡ length us = omega (arith, place_le w us) in
           let e = place_past v w us q ne in
           given_none (us ++ v ∷ []) w (simp length-append (omega arith)) ∙ sym (given_none us w l)
 
-  pub fresh : get_or numbers v 0 ≤ 0 → Numbered (note eqb v us) (set numbers v (seen + 1)) (seen + 1) × (seen + 1 ≡ suc (place eqb v us))
+  pub fresh : get_or numbers v None ≡ None → Numbered (note eqb v us) (set numbers v (Some (seen + 1))) (seen + 1) × (seen + 1 ≡ suc (place eqb v us))
   fresh none =
       let p = fresh_place none in
       let new = note_new v us p in
       let c = h.counted in
       let at : place eqb v (us ++ v ∷ []) ≡ length us = place_new v us p in
-      let longer : length (us ++ v ∷ []) ≡ length us + 1 = length-append us (v ∷ []) in (
-        subst (λ ws. Numbered ws (set numbers v (seen + 1)) (seen + 1)) (sym new)
+      let longer : length (us ++ v ∷ []) ≡ length us + 1 = length-append us (v ∷ []) in
+      let number : suc (place eqb v (us ++ v ∷ [])) ≡ seen + 1 = omega arith in
+      let next : Option ℕ = Some (seen + 1) in (
+        subst (λ ws. Numbered ws (set numbers v next) (seen + 1)) (sym new)
             (record {
               counted = omega arith;
               each = λ w l. ⊎_elim
                   (λ (e : v ≡ w).
-                  subst (λ x. get_or (set numbers v (seen + 1)) x 0 ≡ given (us ++ v ∷ []) x) e
-                  (get_or-set_same numbers v (seen + 1) 0 within ∙ sym (given_old (us ++ v ∷ []) v (omega arith) ∙ omega arith)))
+                  subst (λ x. get_or (set numbers v next) x None ≡ given (us ++ v ∷ []) x) e
+                  (get_or-set_same numbers v next None within ∙ sym (given_old (us ++ v ∷ []) v (omega arith) ∙ ap Some number)))
                   (λ (ne : v ≡ w → ⊥).
-                  get_or-set_other numbers v w (seen + 1) 0 (λ e. ne (sym e)) ∙ h.each w (subst (λ n. w < n) (length-set numbers v (seen + 1)) l) ∙ sym (given_other p w ne))
+                  get_or-set_other numbers v w next None (λ e. ne (sym e)) ∙ h.each w (subst (λ n. w < n) (length-set numbers v next) l) ∙ sym (given_other p w ne))
                   (cases_eq v w);
             }),
         omega arith,
       )
 
 -- marks
-pub marked_le : (xs : List ℕ) → marked xs ≤ length xs
+pub marked_le : (xs : List (Option ℕ)) → marked xs ≤ length xs
 marked_le [] = omega arith
-marked_le (x ∷ xs) = elim (eqb x 0) as (λ t. cond t (marked xs) (suc (marked xs)) ≤ suc (length xs)) [ true ↦ omega (arith, marked_le xs) | false ↦ omega (arith, marked_le xs) ]
+marked_le (None ∷ xs) = omega (arith, marked_le xs)
+marked_le (Some n ∷ xs) = omega (arith, marked_le xs)
 
-pub marked_set : (xs : List ℕ) (v n : ℕ) → v < length xs → get_or xs v 0 ≤ 0 → 0 < n → marked (set xs v n) ≡ marked xs + 1
-marked_set [] v n h z k = absurd (omega arith)
-marked_set (x ∷ xs) zero n h z k = cond-false (eqb n 0) _ _ (ne_eqb n 0 (λ e. omega arith)) ∙ sym (ap (λ m. m + 1) (cond-true (eqb x 0) (marked xs) (suc (marked xs)) (eq-eqb x 0 (omega arith))) ∙ omega arith)
-marked_set (x ∷ xs) (suc v) n h z k = go (eqb x 0) (marked_set xs v n (omega arith) z k)
-  where
-    go : (t : Bool) → marked (set xs v n) ≡ marked xs + 1 → cond t (marked (set xs v n)) (suc (marked (set xs v n))) ≡ cond t (marked xs) (suc (marked xs)) + 1
-    go true e = e
-    go false e = omega arith
+pub marked_set : (xs : List (Option ℕ)) (v n : ℕ) → v < length xs → get_or xs v None ≡ None → marked (set xs v (Some n)) ≡ marked xs + 1
+marked_set [] v n h z = absurd (omega arith)
+marked_set (None ∷ xs) zero n h z = omega arith
+marked_set (Some m ∷ xs) zero n h z = cc
+marked_set (None ∷ xs) (suc v) n h z = marked_set xs v n (omega arith) z
+marked_set (Some m ∷ xs) (suc v) n h z = omega (arith, marked_set xs v n (omega arith) z)
 
--- a table of zeros
-pub marked_none : (xs : List ℕ) → ((v : ℕ) → v < length xs → get_or xs v 0 ≡ 0) → marked xs ≡ 0
-marked_none [] h = refl
-marked_none (x ∷ xs) h =
-    cond-true (eqb x 0) (marked xs) (suc (marked xs)) (eq-eqb x 0 (h 0 (omega arith))) ∙ marked_none xs (λ v l. h (suc v) (omega arith))
+-- a table with no numbers
+none_at : (n v : ℕ) → slice_index_or (replicate n None) v None ≡ given [] v
+none_at zero v = refl
+none_at (suc n) zero = refl
+none_at (suc n) (suc v) = none_at n v
 
-pub numbered_none : (xs : List ℕ) → ((v : ℕ) → v < length xs → get_or xs v 0 ≡ 0) → Numbered [] xs 0
-numbered_none xs h = record { counted = refl; each = h }
+pub numbered_none : (n : ℕ) → Numbered [] (replicate n None) 0
+numbered_none n = record { counted = refl; each = λ v l. none_at n v }

@@ -1,23 +1,24 @@
 -- A term written field by field, turn by turn.
-use Rattle.std.proofs.Common.{◌≡◌, ℕ, ◌<◌, eqb, List, [], ◌∷◌, ◌++◌, length, sym, refl, ap, ◌∙◌, subst, arith}
+use Rattle.std.proofs.Common.{◌≡◌, ℕ, ◌+◌, ◌<◌, ◌≤◌, eqb, List, [], ◌∷◌, ◌++◌, length, Option, sym, refl, ap, ◌∙◌, subst, arith}
 use Rattle.std.proofs.lemmas.List.{append_assoc, append-nil}
 use Rattle.horn.specs.Terms.{Terms, node, nil, cons, join}
 use Rattle.horn.specs.Answers.{note, through, throughs}
 use Rattle.heap.specs.declared.cell.Cell.{Cell}
 use Rattle.heap.specs.declared.cell.Cell.TheVariants.{Unbound, Ref, Node}
-use Rattle.heap.specs.Heaps.{Heap, Closed, cell}
+use Rattle.heap.specs.Heaps.{Heap, Sound, Closed, cell}
 use Rattle.heap.specs.Solutions.{Naming, Valuation, Sol, Says, Root, span}
 use Rattle.heap.proofs.HeapLaws.{node_within}
 use Rattle.heap.proofs.SpanLaws.{size, span_size}
+use Rattle.heap.proofs.Denotes.{stands, stands_sol}
 use Rattle.answers.specs.declared.frame.Frame.{Frame}
 use Rattle.answers.specs.Frames.{Stands, field_at, seen_at, frame_at, added, pending}
 use Rattle.answers.specs.Streams.{written, writtens}
 use Rattle.answers.specs.Numbering.{Numbered}
-use Rattle.answers.proofs.FrameLaws.{Fits, Above, Chain, onward, chain_added}
+use Rattle.answers.proofs.FrameLaws.{Fits, Above, Chain, onward, depth, chain_added, chain_next}
 use Rattle.answers.proofs.StreamLaws.{terms, cell_written, cell_seen, pending_push, pending_added, span_first}
 
 -- what is done since the term at start was begun, and what is left: the term at `at` and those of the frames
-pub record Moved (names : Naming) (H : Heap) (start : ℕ) (us : List ℕ) (Held : List ℕ → Type 0) (numbers : List ℕ) (seen at : ℕ) (fs : List Frame) : Type 0 where
+pub record Moved (names : Naming) (H : Heap) (start : ℕ) (us : List ℕ) (Held : List ℕ → Type 0) (numbers : List (Option ℕ)) (seen at : ℕ) (fs : List Frame) : Type 0 where
   pub vs : List ℕ
   pub done : List ℕ
   pub held : Held done
@@ -25,7 +26,7 @@ pub record Moved (names : Naming) (H : Heap) (start : ℕ) (us : List ℕ) (Held
   pub bytes : (ρ : Valuation) → Stands names H ρ → written (ρ start) us ≡ done ++ writtens (cons (ρ at) (pending ρ fs nil)) vs
   pub seens : (ρ : Valuation) → Stands names H ρ → through (note eqb) (ρ start) us ≡ throughs (note eqb) (cons (ρ at) (pending ρ fs nil)) vs
 
-pub moved_start : (names : Naming) (H : Heap) (start : ℕ) (us : List ℕ) (Held : List ℕ → Type 0) (numbers : List ℕ) (seen : ℕ) (fs : List Frame)
+pub moved_start : (names : Naming) (H : Heap) (start : ℕ) (us : List ℕ) (Held : List ℕ → Type 0) (numbers : List (Option ℕ)) (seen : ℕ) (fs : List Frame)
     → fs ≡ [] → Held [] → Numbered us numbers seen → Moved names H start us Held numbers seen start fs
 moved_start names H start us Held numbers seen fs e h n = record {
   vs = us;
@@ -50,7 +51,7 @@ module _ (names : Naming) (H : Heap) (at r : ℕ) (root : Root H at r) where
         ap (λ t. throughs (note eqb) (cons t rest) vs) (root.same names ρ st.solves)
         ∙ cell_seen names ρ r rest vs (cell H r) root.rooted (st.solves r) (st.free r)
 
-  module _ (start : ℕ) (us : List ℕ) (Held : List ℕ → Type 0) (numbers : List ℕ) (seen : ℕ) (fs : List Frame) (m : Moved names H start us Held numbers seen at fs)
+  module _ (start : ℕ) (us : List ℕ) (Held : List ℕ → Type 0) (numbers : List (Option ℕ)) (seen : ℕ) (fs : List Frame) (m : Moved names H start us Held numbers seen at fs)
       (f : Frame) (is : f ≡ frame_at (cell H r) r) (gs : List Frame) (pushed : gs ≡ added f fs) where
     left : (ρ : Valuation) → pending ρ gs nil ≡ join (terms ρ (frame_at (cell H r) r)) (pending ρ fs nil)
     left ρ = ap (λ z. pending ρ z nil) pushed ∙ pending_added ρ fs f ∙ ap (λ z. join (terms ρ z) (pending ρ fs nil)) is
@@ -79,7 +80,7 @@ module _ (names : Naming) (H : Heap) (at r : ℕ) (root : Root H at r) where
 
     -- a turn
     pub moved_on : (hs ks : List Frame) (top : Frame) → gs ≡ hs ++ top ∷ [] → 0 < top.left → ks ≡ added (onward top) hs
-        → (Held' : List ℕ → Type 0) (numbers' : List ℕ) (seen' : ℕ) → Held' (m.done ++ field_at names (cell H r) r m.vs) → Numbered (seen_at (cell H r) r m.vs) numbers' seen'
+        → (Held' : List ℕ → Type 0) (numbers' : List (Option ℕ)) (seen' : ℕ) → Held' (m.done ++ field_at names (cell H r) r m.vs) → Numbered (seen_at (cell H r) r m.vs) numbers' seen'
         → Moved names H start us Held' numbers' seen' top.next ks
     moved_on hs ks top e some k Held' numbers' seen' h n =
         let next : (ρ : Valuation) → pending ρ gs nil ≡ cons (ρ top.next) (pending ρ ks nil) = λ ρ.
@@ -127,3 +128,23 @@ module _ (names : Naming) (H : Heap) (at r : ℕ) (root : Root H at r) where
         owner_is Unbound = refl
         owner_is (Ref k) = refl
         owner_is (Node f n b) = refl
+
+-- a frame was pushed, in sound cells
+module _ (names : Naming) (H : Heap) (sound : Sound H) (closed : Closed H) (at r : ℕ) (root : Root H at r) (fs gs : List Frame) (f : Frame) (is : f ≡ frame_at (cell H r) r) (pushed : gs ≡ added f fs)
+    (chained : (ρ : Valuation) → Sol names H ρ → Chain (λ i. size (ρ i)) (length H) fs × Above (λ i. size (ρ i)) (size (ρ at)) fs) where
+  abbrev weight : ℕ → ℕ
+  weight i = size (stands names H sound i)
+
+  chain : Chain weight (length H) gs
+  chain =
+      let sol = stands_sol names H sound in
+      let before = chained (stands names H sound) sol in
+      chain_pushed names H at r root closed (stands names H sound) sol fs gs f is pushed before.0 before.1
+
+  -- there are no more frames than cells
+  pub few : length gs ≤ length H
+  few = depth weight (length H) gs chain
+
+  -- the top frame has an argument left, and all that it has left are cells
+  pub top_left : (hs : List Frame) (top : Frame) → gs ≡ hs ++ top ∷ [] → (0 < top.left) × (top.next + top.left ≤ length H)
+  top_left hs top e = let fit = (chain_next weight (length H) hs gs _ top e refl chain).2 in (fit.some, fit.within)

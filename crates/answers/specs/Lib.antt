@@ -1,3 +1,4 @@
+pub mod Sounds
 pub mod Shows
 pub mod Takes
 pub mod Streams

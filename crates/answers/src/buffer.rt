@@ -5,8 +5,9 @@ ghost use Rattle.std.proofs.Common.{rules, sym, arith};
 ghost use Rattle.text.proofs.Wrote.{wrote_none};
 
 use crate::sink::Sink;
+use arrayvec::CapacityError;
 
-// Counts bytes up to the limit, and leaves the buffer alone.
+// Counts bytes up to the limit.
 #[derive(Clone, Copy)]
 pub struct Count {
     pub len: usize,
@@ -14,45 +15,47 @@ pub struct Count {
 }
 
 impl Sink for Count {
-    ghost room = { λ s o. s.limit - s.len };
+    ghost room = { λ s. s.limit - s.len };
 
-    ghost holds = { λ s o t q bs. Counted s o t q bs };
+    ghost holds = { λ s t bs. Counted s t bs };
 
     ghost none = { Prim.search rules };
 
     ghost less = { Prim.search rules };
 
-    fn put(&mut self, out: &mut [u8], b: u8) -> bool {
+    fn put(&mut self, _b: u8) -> Result<(), CapacityError> {
         if self.len >= self.limit {
-            return false;
+            return Err(CapacityError::new(()));
         }
         self.len += 1;
-        true
+        Ok(())
     }
 }
 
-// Writes bytes into the buffer from `len` on.
-#[derive(Clone, Copy)]
-pub struct Write {
+// Writes bytes into the buffer from `len` on. The buffer is lent and may have any length, where a vector of fixed capacity wants a constant.
+// No Stack: its promise is of the buffer after it, not of the entries.
+#[derive(Drop)]
+pub struct Write<'a> {
+    pub buffer: &'a mut [u8],
     pub len: usize,
 }
 
-impl Sink for Write {
-    ghost room = { λ s o. length o - s.len };
+impl<'a> Sink for Write<'a> {
+    ghost room = { λ s. length s.buffer.now - s.len };
 
-    ghost holds = { λ s o t q bs. Wrote s o t q bs };
+    ghost holds = { λ s t bs. Wrote s t bs };
 
-    ghost none = { λ s o. record { size = refl; len = omega arith; fits = omega arith; after = sym (wrote_none o s.len) } };
+    ghost none = { λ s. record { same_buffer = refl; size = refl; len = omega arith; fits = omega arith; after = sym (wrote_none s.buffer.now s.len) } };
 
     ghost less = { Prim.search rules };
 
-    fn put(&mut self, out: &mut [u8], b: u8) -> bool {
+    fn put(&mut self, b: u8) -> Result<(), CapacityError> {
         let len = self.len;
-        if len >= out.len() {
-            return false;
+        if len >= self.buffer.len() {
+            return Err(CapacityError::new(()));
         }
-        out[len] = b;
+        self.buffer[len] = b;
         self.len = len + 1;
-        true
+        Ok(())
     }
 }

@@ -1,44 +1,37 @@
 // Fields put into a sink, a comma before each.
-ghost use Rattle.std.specs.Prelude.{◌<◌, ◌∷◌, decimal};
+ghost use Rattle.std.specs.Prelude.{◌<◌, ◌∷◌, decimal, is_ok};
 ghost use Rattle.horn.specs.Notation.{field, word_for};
 ghost use Rattle.answers.specs.Takes.{Puts};
 
 use crate::bytes::{put_bytes, put_decimal, put_name};
 use crate::names::Names;
 use crate::sink::Sink;
+use arrayvec::CapacityError;
 
 // Puts the label of the n-th unbound variable.
-pub(crate) fn put_label<S: Sink>(sink: &mut S, out: &mut [u8], n: u16) -> bool
-    ensures { Puts S S.room S.holds result sink.old out.old sink.new out.new (44 ∷ 95 ∷ decimal n) }
+pub(crate) fn put_label<S: Sink>(sink: &mut S, n: u16) -> Result<(), CapacityError>
+    ensures { Puts S S.room S.holds (is_ok result) sink.old sink.new (44 ∷ 95 ∷ decimal n) }
 {
-    if !put_bytes(sink, out, b",_") {
-        return false;
-    }
-    put_decimal(sink, out, n as usize)
+    put_bytes(sink, b",_")?;
+    put_decimal(sink, n as usize)
 }
 
 // Puts a name, with its arity if there are arguments.
 pub(crate) fn put_symbol<S: Sink, N: Names>(
     sink: &mut S,
-    out: &mut [u8],
     names: &N,
     symbol: u16,
     arity: u16,
-) -> bool
+) -> Result<(), CapacityError>
     requires { arity < 10 }
-    ensures { Puts S S.room S.holds result sink.old out.old sink.new out.new (44 ∷ field (word_for (N.Names.naming names.now symbol) arity)) }
+    ensures { Puts S S.room S.holds (is_ok result) sink.old sink.new (44 ∷ field (word_for (N.Names.naming names.now symbol) arity)) }
 {
-    if !sink.put(out, b',') {
-        return false;
-    }
+    sink.put(b',')?;
+    put_name(sink, names, symbol)?;
     if arity == 0 {
-        return put_name(sink, out, names, symbol);
+        return Ok(());
     }
-    if !put_name(sink, out, names, symbol) {
-        return false;
-    }
-    if !sink.put(out, b'/') {
-        return false;
-    }
-    sink.put(out, b'0' + arity as u8)
+    sink.put(b'/')?;
+    // one digit, as an arity has in a line
+    sink.put(b'0' + arity as u8)
 }

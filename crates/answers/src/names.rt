@@ -1,7 +1,7 @@
 // The names of symbols.
 ghost use Rattle.std.specs.Prelude.{◌≡◌, ℕ, ◌<◌, List, length, slice_index};
 
-// Gives the name of each symbol, byte by byte.
+// Gives the name of each symbol, byte by byte: where an image has it, its bytes stand four to a word, and no slice of them can be lent.
 pub trait Names {
     ghost naming: { Self → ℕ → List ℕ };
 

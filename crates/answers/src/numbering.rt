@@ -1,32 +1,41 @@
 // The numbers of unbound variables, by first appearance.
-ghost use Rattle.std.specs.Prelude.{◌≡◌, ℕ, suc, ◌<◌, ◌≤◌, List, length, nat_eq, slice_index};
+ghost use Rattle.std.specs.Prelude.{◌≡◌, ℕ, suc, ◌<◌, List, [], nat_eq};
 ghost use Rattle.heap.specs.Limits.{cell_limit};
 ghost use Rattle.horn.specs.Answers.{note, place};
 ghost use Rattle.answers.specs.Numbering.{Numbered, marked};
 
-// The number of the variable `v`, the next one where it has none yet. `numbers` has 0 for those without.
-pub(crate) fn number_of(numbers: &mut [u16], seen: &mut u16, v: u16) -> u16
-    requires within { v < length numbers.old }
-    requires small { length numbers.old ≤ cell_limit }
-    requires tally { seen.old ≡ marked numbers.old }
-    ensures tally { seen.new ≡ marked numbers.new }
-    ensures value { (us : List ℕ) → Numbered us numbers.old seen.old → Numbered (note nat_eq v us) numbers.new seen.new × (result ≡ suc (place nat_eq v us)) }
-{
-    let known = numbers[v as usize];
-    if known > 0 {
-        return known;
-    }
-    let next = *seen + 1;
-    *seen = next;
-    numbers[v as usize] = next;
-    next
+use heap::CELL_LIMIT;
+
+// The numbers, from 1, of the variables that have appeared, each at its cell.
+#[derive(Drop)]
+pub struct Numbering {
+    pub(crate) numbers: [Option<u16>; CELL_LIMIT],
+    // how many have appeared
+    pub(crate) seen: u16,
+    ghost tally: { seen ≡ marked numbers },
 }
 
-// Takes all numbers away.
-pub(crate) fn clear(numbers: &mut [u16])
-    ensures { (v : ℕ) → v < length numbers.new → slice_index numbers.new v ≡ 0 }
-{
-    for i in 0..numbers.len() {
-        numbers[i] = 0;
+impl Numbering {
+    pub fn new() -> Numbering
+        ensures { Numbered [] result.numbers result.seen }
+    {
+        Numbering {
+            numbers: [None; CELL_LIMIT],
+            seen: 0,
+        }
+    }
+
+    // The number of the variable `v`, the next one where it has none yet.
+    pub fn number(&mut self, v: u16) -> u16
+        requires { v < cell_limit }
+        ensures { (us : List ℕ) → Numbered us self.old.numbers self.old.seen → Numbered (note nat_eq v us) self.new.numbers self.new.seen × (result ≡ suc (place nat_eq v us)) }
+    {
+        if let Some(known) = self.numbers[v as usize] {
+            return known;
+        }
+        let next = self.seen + 1;
+        self.seen = next;
+        self.numbers[v as usize] = Some(next);
+        next
     }
 }

@@ -1,19 +1,21 @@
 // What takes the bytes of a line.
-ghost use Rattle.std.specs.Prelude.{◌≡◌, ℕ, ◌+◌, List, [], ◌∷◌, length};
+ghost use Rattle.std.specs.Prelude.{◌≡◌, ℕ, ◌+◌, List, [], ◌∷◌, length, is_ok};
 ghost use Rattle.answers.specs.Takes.{Puts};
 
-// Takes bytes, one by one, as long as there is room. The buffer is lent to each call.
+use arrayvec::CapacityError;
+
+// Takes bytes, one by one, as long as there is room.
 pub trait Sink {
     // how many bytes more are taken
-    ghost room: { Self → List ℕ → ℕ };
+    ghost room: { Self → ℕ };
 
-    // these bytes lead from the first state and buffer to the second
-    ghost holds: { Self → List ℕ → Self → List ℕ → List ℕ → Type 0 };
+    // these bytes lead from the first state to the second
+    ghost holds: { Self → Self → List ℕ → Type 0 };
 
-    fn put(&mut self, out: &mut [u8], b: u8) -> bool
-        ensures { Puts Self room holds result self.old out.old self.new out.new (b ∷ []) };
+    fn put(&mut self, b: u8) -> Result<(), CapacityError>
+        ensures { Puts Self room holds (is_ok result) self.old self.new (b ∷ []) };
 
-    ghost none: { (s : Self) (o : List ℕ) → holds s o s o [] };
+    ghost none: { (s : Self) → holds s s [] };
 
-    ghost less: { (s t : Self) (o q bs : List ℕ) → holds s o t q bs → room t q + length bs ≡ room s o };
+    ghost less: { (s t : Self) (bs : List ℕ) → holds s t bs → room t + length bs ≡ room s };
 }

@@ -1,17 +1,16 @@
 -- Laws of the way back.
-use Rattle.std.proofs.Common.{◌≡◌, ℕ, zero, suc, ◌<◌, ◌≤◌, Bool, true, false, cond, ltb, List, [], ◌∷◌, ◌++◌, map, length, take, drop, set, sym, refl, ap, ◌∙◌, subst, subst₂, append_assoc, append-nil, arith, length-append}
+use Rattle.std.proofs.Common.{◌≡◌, ℕ, zero, suc, ◌<◌, ◌≤◌, Bool, true, false, cond, ltb, List, [], ◌∷◌, ◌++◌, length, take, drop, set, sym, refl, ap, ◌∙◌, subst, append_assoc, append-nil, arith, length-append}
 use Rattle.std.specs.List.{AllByRecursion}
 use Rattle.std.proofs.lemmas.List.{length_push, take_all, take-take, drop_all, take_at, drop_at, drop-append-le}
 use Rattle.std.proofs.ByRecursion.{All-append}
 use Rattle.heap.specs.Limits.{cell_limit}
 use Rattle.heap.specs.Heaps.{Heap}
 use Rattle.heap.specs.declared.cell.Cell.{Cell}
-use Rattle.heap.specs.declared.cell.Cell.TheVariants.{Ref, Node}
 use Rattle.matching.specs.Trails.{undone, InTrail, Kept}
 use Rattle.matching.specs.declared.trail.Bound.{Bound}
 use Rattle.matching.proofs.TrailLaws.{undone_append}
 use Rattle.cells.specs.States.{Fine}
-use Rattle.cells.specs.Growth.{grown, fits, structured, Grew, Saves}
+use Rattle.cells.specs.Growth.{grown, Grew, Saves}
 
 take_set : {X : Type 0} (n : ℕ) (xs : List X) (i : ℕ) (v : X) → take n (set xs i v) ≡ set (take n xs) i v
 take_set zero [] i v = refl
@@ -46,26 +45,6 @@ grew_grown H t c = go (ltb (length H) cell_limit)
   where
     go : (b : Bool) → Grew H t (cond b (H ++ c ∷ []) H) t
     go true = grew_push H t c
-    go false = grew_none H t
-
--- as the pushes say it
-pub grew_by : {H H' : Heap} {t t' : List Bound} (c : Cell) → H' ≡ grown H c → t' ≡ t → Grew H t H' t'
-grew_by {H} {H'} {t} {t'} c e f = subst₂ (Grew H t) (sym e) (sym f) (grew_grown H t c)
-
-grew_append : (H : Heap) (t : List Bound) (G : Heap) → Grew H t (H ++ G) t
-grew_append H t G = record {
-  added = [];
-  longer = sym (append-nil t);
-  back = take_at H G (length H) refl;
-  more = omega (arith, length-append H G);
-  inside = tt;
-}
-
-pub grew_structured : {H H' : Heap} {t t' : List Bound} (f : ℕ) (args : List ℕ) → H' ≡ cond (fits H args) (structured H f args) H → t' ≡ t → Grew H t H' t'
-grew_structured {H} {H'} {t} {t'} f args e q = subst₂ (Grew H t) (sym e) (sym q) (go (fits H args))
-  where
-    go : (b : Bool) → Grew H t (cond b (structured H f args) H) t
-    go true = subst (λ X. Grew H t X t) (sym (append_assoc H (map Ref args) (Node f (length args) (length H) ∷ []))) (grew_append H t (map Ref args ++ Node f (length args) (length H) ∷ []))
     go false = grew_none H t
 
 pub grew_kept : {H H' : Heap} {t t' : List Bound} → Kept H t H' t' → Grew H t H' t'

@@ -1,4 +1,4 @@
-pub mod Seals
+pub mod StoreLaws
 pub mod StateLaws
 pub mod GrowthLaws
 pub mod StructureLaws

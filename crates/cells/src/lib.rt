@@ -1,7 +1,6 @@
 // The machine's memory: cells and trail in areas of fixed size, and matching on them.
 #![tactic(auto)]
 
-mod areas;
 mod methods;
 mod store;
 

@@ -1,7 +1,7 @@
 // What a store does.
-ghost use Rattle.std.specs.Prelude.{◌≡◌, ℕ, ◌+◌, ◌<◌, ◌≤◌, [], length, take, drop, if◌then◌else◌, Some, None, MatchBool, slice_index};
+ghost use Rattle.std.specs.Prelude.{◌≡◌, ℕ, ◌+◌, ◌<◌, ◌≤◌, [], length, take, drop, if◌then◌else◌, Some, None, MatchBool, is_ok, slice_index};
 ghost use Rattle.heap.specs.Limits.{cell_limit};
-ghost use Rattle.heap.specs.Heaps.{Sound, Closed, cell};
+ghost use Rattle.heap.specs.Heaps.{Sound, Closed, Names, cell, total, arity};
 ghost use Rattle.heap.specs.Solutions.{Root, Apart};
 ghost use Rattle.heap.specs.declared.cell.Cell.TheVariants.{Unbound, Ref, Node};
 ghost use Rattle.matching.specs.Trails.{undone, Kept};
@@ -9,10 +9,10 @@ ghost use Rattle.matching.specs.Unifies.{Unified};
 ghost use Rattle.cells.specs.Growth.{placed, grown, fits, structured, Spare, Grew, Saves};
 ghost use Rattle.cells.specs.Stores.{cells_of, bound_of};
 
-use crate::areas::{empty, go_back, in_use, push_cell, root_of, unite};
-use crate::store::{PAIR_LIMIT, Store};
-use heap::{CELL_LIMIT, Cell, Marks};
-use matching::{Pair, Trail};
+use crate::store::Store;
+use arrayvec::ArrayVec;
+use heap::{Cell, root};
+use matching::{Trail, Unifier, Unlike, undo};
 
 impl Store {
     pub fn new() -> Store
@@ -20,12 +20,9 @@ impl Store {
         ensures trail { bound_of result ≡ [] }
     {
         Store {
-            cells: [Cell::Unbound; CELL_LIMIT],
-            top: 0,
+            cells: ArrayVec::new(),
             trail: Trail::new(),
-            marks: Marks::new(),
-            visits: [0; CELL_LIMIT],
-            pairs: [Pair { left: 0, right: 0 }; PAIR_LIMIT],
+            unifier: Unifier::new(),
         }
     }
 
@@ -34,7 +31,8 @@ impl Store {
         ensures cells { cells_of self.new ≡ [] }
         ensures trail { bound_of self.new ≡ [] }
     {
-        empty(&mut self.cells, &mut self.top, &mut self.trail);
+        self.cells.clear();
+        self.trail.clear();
     }
 
     // The cells in use.
@@ -44,7 +42,7 @@ impl Store {
         ensures closed { Closed result.now }
         ensures few { length result.now ≤ cell_limit }
     {
-        in_use(&self.cells, self.top)
+        self.cells.as_slice()
     }
 
     // How many cells are in use.
@@ -52,7 +50,7 @@ impl Store {
         ensures value { result ≡ length (cells_of self.now) }
         ensures within { result ≤ cell_limit }
     {
-        self.top
+        self.cells.len() as u16
     }
 
     // How many bindings the trail has. With `top` it says what to come back to.
@@ -76,7 +74,24 @@ impl Store {
         requires { i < length (cells_of self.now) }
         ensures { Root (cells_of self.now) i result }
     {
-        root_of(&self.cells, self.top, &self.trail, i)
+        root(self.cells(), i)
+    }
+
+    // Adds a cell that names older ones, and answers its place; where the area is full, nothing changes.
+    fn push_cell(&mut self, c: Cell) -> Option<u16>
+        requires older { (j : ℕ) → Names c j → j < length (cells_of self.old) }
+        requires spare { total arity (cells_of self.old) + arity c ≤ length (cells_of self.old) + 1 }
+        ensures value { result ≡ placed (cells_of self.old) }
+        ensures cells { cells_of self.new ≡ grown (cells_of self.old) c }
+        ensures trail { bound_of self.new ≡ bound_of self.old }
+        ensures grew { Grew (cells_of self.old) (bound_of self.old) (cells_of self.new) (bound_of self.new) }
+    {
+        if self.cells.is_full() {
+            return None;
+        }
+        let at = self.top();
+        self.cells.push(c);
+        Some(at)
     }
 
     // A new unbound cell. It and the next two are refused only where the area is full.
@@ -86,7 +101,7 @@ impl Store {
         ensures trail { bound_of self.new ≡ bound_of self.old }
         ensures grew { Grew (cells_of self.old) (bound_of self.old) (cells_of self.new) (bound_of self.new) }
     {
-        push_cell(&mut self.cells, &mut self.top, &self.trail, Cell::Unbound)
+        self.push_cell(Cell::Unbound)
     }
 
     // A new reference.
@@ -97,7 +112,7 @@ impl Store {
         ensures trail { bound_of self.new ≡ bound_of self.old }
         ensures grew { Grew (cells_of self.old) (bound_of self.old) (cells_of self.new) (bound_of self.new) }
     {
-        push_cell(&mut self.cells, &mut self.top, &self.trail, Cell::Ref(i))
+        self.push_cell(Cell::Ref(i))
     }
 
     // A new structure, or a constant where `arity` is 0. Its arguments are cells already, which no other structure has.
@@ -109,16 +124,11 @@ impl Store {
         ensures trail { bound_of self.new ≡ bound_of self.old }
         ensures grew { Grew (cells_of self.old) (bound_of self.old) (cells_of self.new) (bound_of self.new) }
     {
-        push_cell(
-            &mut self.cells,
-            &mut self.top,
-            &self.trail,
-            Cell::Node {
-                symbol,
-                arity,
-                first,
-            },
-        )
+        self.push_cell(Cell::Node {
+            symbol,
+            arity,
+            first,
+        })
     }
 
     // A new structure with references to `args` for its arguments; where they do not all fit, nothing changes.
@@ -129,10 +139,10 @@ impl Store {
         ensures trail { bound_of self.new ≡ bound_of self.old }
         ensures grew { Grew (cells_of self.old) (bound_of self.old) (cells_of self.new) (bound_of self.new) }
     {
-        let first = self.top();
-        if args.len() >= CELL_LIMIT - first as usize {
+        if args.len() >= self.cells.remaining_capacity() {
             return None;
         }
+        let first = self.top();
         for x in args {
             self.push_ref(*x);
         }
@@ -140,23 +150,15 @@ impl Store {
     }
 
     // Makes the terms at `a` and `b` one, or says that they cannot be.
-    pub fn unify(&mut self, a: u16, b: u16) -> bool
+    pub fn unify(&mut self, a: u16, b: u16) -> Result<(), Unlike>
         requires a_within { a < length (cells_of self.old) }
         requires b_within { b < length (cells_of self.old) }
         ensures kept { Kept (cells_of self.old) (bound_of self.old) (cells_of self.new) (bound_of self.new) }
         ensures grew { Grew (cells_of self.old) (bound_of self.old) (cells_of self.new) (bound_of self.new) }
-        ensures result { MatchBool result (Unified (cells_of self.old) (cells_of self.new) a b) (Apart (cells_of self.old) a b) }
+        ensures result { MatchBool (is_ok result) (Unified (cells_of self.old) (cells_of self.new) a b) (Apart (cells_of self.old) a b) }
     {
-        unite(
-            &mut self.cells,
-            self.top,
-            &mut self.trail,
-            &mut self.marks,
-            &mut self.visits,
-            &mut self.pairs,
-            a,
-            b,
-        )
+        self.unifier
+            .unify(self.cells.as_mut_slice(), &mut self.trail, a, b)
     }
 
     // Takes back the bindings since the trail was `mark` long, and gives up the cells from `top` on.
@@ -165,6 +167,7 @@ impl Store {
         ensures cells { cells_of self.new ≡ take top (undone (drop mark (bound_of self.old)) (cells_of self.old)) }
         ensures trail { bound_of self.new ≡ take mark (bound_of self.old) }
     {
-        go_back(&mut self.cells, &mut self.top, &mut self.trail, mark, top)
+        undo(self.cells.as_mut_slice(), &mut self.trail, mark);
+        self.cells.truncate(top as usize);
     }
 }

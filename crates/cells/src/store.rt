@@ -1,22 +1,22 @@
 // The store: areas of fixed size, fit for matching. No call allocates.
-ghost use Rattle.cells.specs.States.{Sane};
+ghost use Rattle.std.specs.Prelude.{◌≤◌, length};
+ghost use Rattle.heap.specs.Limits.{cell_limit};
+ghost use Rattle.cells.specs.States.{Fine};
 
-use heap::{CELL_LIMIT, Cell, Marks};
-use matching::{Pair, Trail};
+use arrayvec::ArrayVec;
+use heap::{CELL_LIMIT, Cell};
+use matching::{Trail, Unifier};
 
 // The first pair, and one for each argument of a structure.
-pub(crate) const PAIR_LIMIT: usize = 4225;
+const PAIR_LIMIT: usize = CELL_LIMIT + 1;
 
+// No Model: two things are said of it, its cells and its bindings.
 #[derive(Drop)]
 pub struct Store {
-    pub(crate) cells: [Cell; CELL_LIMIT],
-    // how many cells are in use
-    pub(crate) top: u16,
+    // the cells in use
+    pub(crate) cells: ArrayVec<Cell, CELL_LIMIT>,
     pub(crate) trail: Trail,
-    pub(crate) marks: Marks,
-    // room for the cells that a search has yet to look into
-    pub(crate) visits: [u16; CELL_LIMIT],
-    // room for the pairs that have yet to agree
-    pub(crate) pairs: [Pair; PAIR_LIMIT],
-    ghost sane: { ∥ Sane cells top trail ∥₁ },
+    pub(crate) unifier: Unifier<PAIR_LIMIT>,
+    ghost few: { length cells.items ≤ cell_limit },
+    ghost fine: { ∥ Fine cells.items (length trail) ∥₁ },
 }

@@ -1,149 +1,169 @@
 -- A row more keeps the chains.
-use Rattle.std.proofs.Common.{◌≡◌, ℕ, ◌+◌, ◌<◌, ◌≤◌, List, get_or, sym, refl, ap, ◌∙◌, subst, ⊎_elim, arith}
+use Rattle.std.proofs.Common.{◌≡◌, ℕ, ◌+◌, ◌<◌, ◌≤◌, List, [], ◌∷◌, ◌++◌, length, get_or, set, Some, None, Option, sym, ap, ◌∙◌, subst, ⊎_elim, length-append, length-set, arith}
+use Rattle.std.proofs.lemmas.List.{get_or-set_same, get_or-set_other, get_or_append_left, get_or-append-add}
 use Rattle.std.proofs.lemmas.Bool.{cases_lt, cases_eq}
 use Rattle.choosers.specs.declared.row.Row.{Row}
-use Rattle.choosers.specs.Chained.{none, symbol_at, Least, Last, Chained}
+use Rattle.choosers.specs.declared.chains.Link.{Link}
+use Rattle.choosers.specs.declared.chains.Ends.{Ends}
+use Rattle.choosers.specs.Chained.{link_at, symbol_at, Least, Spans, Chained}
+use Rattle.choosers.specs.Rows.{blank}
 
 -- a row of the symbol s after len rows
-module _ (len s : ℕ) (old new : ℕ → ℕ) (same : (i : ℕ) → i < len → new i ≡ old i) (here : new len ≡ s) (room : len < none) where
-  inside : (n : ℕ) → (len ≤ n → n ≡ none) → n < len + 1 → n < len
-  inside n end lt = ⊎_elim (λ (k : n < len). k) (λ (ge : len ≤ n). let e = end ge in absurd (omega arith)) (cases_lt n len)
+module _ (len s : ℕ) (old new : ℕ → ℕ) (same : (i : ℕ) → i < len → new i ≡ old i) (here : new len ≡ s) where
+  first_kept : (t low n : ℕ) → Least len old t low (Some n) → Least (len + 1) new t low (Some n)
+  first_kept t low n h = (h.0, omega (arith, h.1), same n h.1 ∙ h.2, λ i p. h.3 i (p.0, p.1, sym (same i (omega (arith, p.1, h.1))) ∙ p.2))
 
-  not_here : (t i : ℕ) → (t ≡ s → ⊥) → len ≤ i → i < len + 1 → new i ≡ t → ⊥
-  not_here t i ne ge lt q = let e : i ≡ len = omega arith in ne (sym q ∙ ap new e ∙ here)
+  none_other : (t low : ℕ) → (t ≡ s → ⊥) → Least len old t low None → Least (len + 1) new t low None
+  none_other t low ne h =
+      λ i p. ⊎_elim (λ (lt : i < len). h i (p.0, lt, sym (same i lt) ∙ p.2))
+      (λ (ge : len ≤ i). let e : i ≡ len = omega (arith, p.1) in ne (sym p.2 ∙ ap new e ∙ here)) (cases_lt i len)
 
-  least_other : (t low n : ℕ) → (t ≡ s → ⊥) → Least len old t low n → Least (len + 1) new t low n
-  least_other t low n ne h = (
-    λ i p. ⊎_elim (λ (lt : i < len). h.0 i (p.0, lt, p.2, sym (same i lt) ∙ p.3)) (λ (ge : len ≤ i). not_here t i ne ge p.1 p.3) (cases_lt i len),
-    λ lt. h.1 (inside n h.3 lt),
-    λ lt. same n (inside n h.3 lt) ∙ h.2 (inside n h.3 lt),
-    λ ge. h.3 (omega arith),
-  )
+  least_other : (t low : ℕ) (o : Option ℕ) → (t ≡ s → ⊥) → Least len old t low o → Least (len + 1) new t low o
+  least_other t low None ne h = none_other t low ne h
+  least_other t low (Some n) ne h = first_kept t low n h
 
-  least_kept : (t low n : ℕ) → n < len → Least len old t low n → Least (len + 1) new t low n
-  least_kept t low n within h = (
-    λ i p. let lt : i < len = omega (arith, p.2) in h.0 i (p.0, lt, p.2, sym (same i lt) ∙ p.3),
-    λ _. h.1 within,
-    λ _. same n within ∙ h.2 within,
-    λ ge. absurd (omega arith),
-  )
+  least_new : (low : ℕ) → low ≤ len → Least len old s low None → Least (len + 1) new s low (Some len)
+  least_new low le h = (le, omega arith, here, λ i p. h i (p.0, p.1, sym (same i p.1) ∙ p.2))
 
-  least_new : (low : ℕ) → low ≤ len → ((i : ℕ) → low ≤ i → i < len → old i ≡ s → ⊥) → Least (len + 1) new s low len
-  least_new low below free = (λ i p. free i p.0 p.2 (sym (same i p.2) ∙ p.3), λ _. below, λ _. here, λ ge. absurd (omega arith))
+  none_after : Least (len + 1) new s (len + 1) None
+  none_after = λ i p. absurd (omega (arith, p.0, p.1))
 
-  least_none : Least (len + 1) new s (len + 1) none
-  least_none = (λ i p. absurd (omega (arith, p.0, p.1)), λ lt. absurd (omega arith), λ lt. absurd (omega arith), λ _. refl)
+  spans_other : (t : ℕ) (o : Option Ends) → (t ≡ s → ⊥) → Spans len old t o → Spans (len + 1) new t o
+  spans_other t None ne h = none_other t 0 ne h
+  spans_other t (Some e) ne h = (first_kept t 0 e.first h.0, (omega (arith, h.1.0), same e.last h.1.0 ∙ h.1.1, none_other t (e.last + 1) ne h.1.2))
 
-  last_new : Last (len + 1) new s len
-  last_new = (λ _. here, λ i p. absurd (omega (arith, p.0, p.1)), λ ge. absurd (omega arith), λ i p. absurd (omega (arith, p.0)))
+  spans_first : Least len old s 0 None → Spans (len + 1) new s (Some (record { first = len; last = len }))
+  spans_first h = (least_new 0 (omega arith) h, (omega arith, here, none_after))
 
-  last_other : (t n : ℕ) → (t ≡ s → ⊥) → Last len old t n → Last (len + 1) new t n
-  last_other t n ne h = (
-    λ lt. same n (inside n h.2 lt) ∙ h.0 (inside n h.2 lt),
-    λ i p. ⊎_elim (λ (lt : i < len). h.1 i (p.0, lt, sym (same i lt) ∙ p.2)) (λ (ge : len ≤ i). not_here t i ne ge p.1 p.2) (cases_lt i len),
-    λ ge. h.2 (omega arith),
-    λ i p. ⊎_elim (λ (lt : i < len). h.3 i (p.0, lt, sym (same i lt) ∙ p.2)) (λ (ge : len ≤ i). not_here t i ne ge p.1 p.2) (cases_lt i len),
-  )
+  spans_last : (e : Ends) → Spans len old s (Some e) → Spans (len + 1) new s (Some (record { first = e.first; last = len }))
+  spans_last e h = (first_kept s 0 e.first h.0, (omega arith, here, none_after))
 
--- what a note writes: b is the last row of the symbol s so far
-pub record Noted (len : ℕ) (rows rows' : List Row) (next next' first first' last last' : List ℕ) (s b : ℕ) : Type 0 where
-  pub room : len < none
-  pub same : (i : ℕ) → i < len → symbol_at rows' i ≡ symbol_at rows i
-  pub here : symbol_at rows' len ≡ s
-  pub end : get_or next' len 0 ≡ none
-  pub others : (i : ℕ) → i < len → (i ≡ b → ⊥) → get_or next' i 0 ≡ get_or next i 0
-  pub linked : b < len → get_or next' b 0 ≡ len
-  pub heads : (t : ℕ) → (t ≡ s → ⊥) → get_or first' t 0 ≡ get_or first t 0
-  pub head_kept : b < len → get_or first' s 0 ≡ get_or first s 0
-  pub head_new : len ≤ b → get_or first' s 0 ≡ len
-  pub tails : (t : ℕ) → (t ≡ s → ⊥) → get_or last' t 0 ≡ get_or last t 0
-  pub tail : get_or last' s 0 ≡ len
-  pub was : get_or last s 0 ≡ b
+  module _ (next next' : ℕ → Option ℕ) (end : next' len ≡ None) (steps : (i : ℕ) → i < len → Least len old (old i) (i + 1) (next i)) where
+    steps_by : ((i : ℕ) → i < len → Least (len + 1) new (old i) (i + 1) (next' i)) → (i : ℕ) → i < len + 1 → Least (len + 1) new (new i) (i + 1) (next' i)
+    steps_by f i lt =
+        ⊎_elim (λ (b : i < len). subst (λ k. Least (len + 1) new k (i + 1) (next' i)) (sym (same i b)) (f i b))
+        (λ (ge : len ≤ i).
+        let e : len ≡ i = omega arith in
+        subst (λ k. Least (len + 1) new (new k) (k + 1) (next' k)) e
+        (subst (λ k. Least (len + 1) new k (len + 1) (next' len)) (sym here) (subst (Least (len + 1) new s (len + 1)) (sym end) none_after)))
+        (cases_lt i len)
 
-module _ (len : ℕ) (rows rows' : List Row) (next next' first first' last last' : List ℕ) (s b : ℕ) (small : s < 256) (n : Noted len rows rows' next next' first first' last last' s b) (h : Chained len rows next first last) where
-  tail_was : Last len (symbol_at rows) s b
-  tail_was = subst (Last len (symbol_at rows) s) n.was (h.tails s small)
+    -- the first row of its symbol
+    steps_first : Least len old s 0 None → ((i : ℕ) → i < len → next' i ≡ next i) → (i : ℕ) → i < len + 1 → Least (len + 1) new (new i) (i + 1) (next' i)
+    steps_first free kept =
+        steps_by (λ i lt. subst (Least (len + 1) new (old i) (i + 1)) (sym (kept i lt)) (least_other (old i) (i + 1) (next i) (λ e. free i (omega arith, lt, e)) (steps i lt)))
 
-  -- where b is no row, no row has s
-  free : len ≤ b → (i : ℕ) → i < len → symbol_at rows i ≡ s → ⊥
-  free ge i lt e = tail_was.3 i (tail_was.2 ge, lt, e)
+    -- the next row after b, the last of its symbol
+    module _ (b : ℕ) (bl : b < len) (at : old b ≡ s) (last : Least len old s (b + 1) None) where
+      later : (i : ℕ) → i < len → (i ≡ b → ⊥) → (o : Option ℕ) → Least len old (old i) (i + 1) o → Least (len + 1) new (old i) (i + 1) o
+      later i lt ne (Some n) h = first_kept (old i) (i + 1) n h
+      later i lt ne None h =
+          none_other (old i) (i + 1) (λ e. ⊎_elim (λ (lo : i < b). h b (omega arith, bl, at ∙ sym e)) (λ (hi : b ≤ i). last i (omega arith, lt, e)) (cases_lt i b)) h
 
-  -- where b is a row, what comes before it does not end
-  ends_later : (low k : ℕ) → low ≤ b → b < len → Least len (symbol_at rows) s low k → k < len
-  ends_later low k below bl l =
-      ⊎_elim (λ (lt : k < len). lt) (λ (ge : len ≤ k). let bk : b < k = omega arith in absurd (l.0 b (below, bl, bk, tail_was.0 bl))) (cases_lt k len)
+      steps_linked : ((i : ℕ) → i < len → (i ≡ b → ⊥) → next' i ≡ next i) → next' b ≡ Some len → (i : ℕ) → i < len + 1 → Least (len + 1) new (new i) (i + 1) (next' i)
+      steps_linked others linked =
+          steps_by (λ i lt. ⊎_elim
+          (λ (e : i ≡ b).
+          subst (λ k. Least (len + 1) new (old k) (k + 1) (next' k)) (sym e)
+          (subst (λ t. Least (len + 1) new t (b + 1) (next' b)) (sym at) (subst (Least (len + 1) new s (b + 1)) (sym linked) (least_new (b + 1) (omega arith) last))))
+          (λ (ne : i ≡ b → ⊥). subst (Least (len + 1) new (old i) (i + 1)) (sym (others i lt ne)) (later i lt ne (next i) (steps i lt)))
+          (cases_eq i b))
 
-  head_more : Least (len + 1) (symbol_at rows') s 0 (get_or first' s 0)
-  head_more =
-      ⊎_elim
-      (λ (lt : b < len).
-      subst (Least (len + 1) (symbol_at rows') s 0) (sym (n.head_kept lt))
-      (least_kept len s (symbol_at rows) (symbol_at rows') n.same n.here n.room s 0 (get_or first s 0)
-      (ends_later 0 (get_or first s 0) (omega arith) lt (h.heads s small)) (h.heads s small)))
-      (λ (ge : len ≤ b).
-      subst (Least (len + 1) (symbol_at rows') s 0) (sym (n.head_new ge))
-      (least_new len s (symbol_at rows) (symbol_at rows') n.same n.here n.room 0 (omega arith) (λ i _ lt e. free ge i lt e)))
-      (cases_lt b len)
+abbrev unlinked : Link
+unlinked = record { row = blank; next = None }
 
-  heads_more : (t : ℕ) → t < 256 → Least (len + 1) (symbol_at rows') t 0 (get_or first' t 0)
-  heads_more t tl =
-      ⊎_elim (λ (e : t ≡ s). subst (λ k. Least (len + 1) (symbol_at rows') k 0 (get_or first' k 0)) (sym e) head_more)
-      (λ (ne : t ≡ s → ⊥).
-      subst (Least (len + 1) (symbol_at rows') t 0) (sym (n.heads t ne))
-      (least_other len s (symbol_at rows) (symbol_at rows') n.same n.here n.room t 0 (get_or first t 0) ne (h.heads t tl)))
-      (cases_eq t s)
+abbrev pub last_link : Row → Link
+last_link r = record { row = r; next = None }
 
-  -- at a row of s: what is next
-  step_s : (m : ℕ) → m < len → symbol_at rows m ≡ s → Least (len + 1) (symbol_at rows') s (m + 1) (get_or next' m 0)
-  step_s m ml e =
-      let bl : b < len = ⊎_elim (λ (k : b < len). k) (λ (ge : len ≤ b). absurd (free ge m ml e)) (cases_lt b len) in
-      ⊎_elim
-      (λ (q : m ≡ b).
-      subst (λ k. Least (len + 1) (symbol_at rows') s (k + 1) (get_or next' k 0)) (sym q)
-      (subst (Least (len + 1) (symbol_at rows') s (b + 1)) (sym (n.linked bl))
-      (least_new len s (symbol_at rows) (symbol_at rows') n.same n.here n.room (b + 1) (omega arith) (λ i low lt f. tail_was.1 i (omega arith, lt, f)))))
-      (λ (ne : m ≡ b → ⊥).
-      let mb : m < b = ⊎_elim (λ (k : m < b). k) (λ (ge : b ≤ m). let bm : b < m = omega arith in absurd (tail_was.1 m (bm, ml, e))) (cases_lt m b) in
-      let step = subst (λ k. Least len (symbol_at rows) k (m + 1) (get_or next m 0)) e (h.steps m ml) in
-      subst (Least (len + 1) (symbol_at rows') s (m + 1)) (sym (n.others m ml ne))
-      (least_kept len s (symbol_at rows) (symbol_at rows') n.same n.here n.room s (m + 1) (get_or next m 0)
-      (ends_later (m + 1) (get_or next m 0) (omega arith) bl step) step))
-      (cases_eq m b)
+-- the links with one more at the end
+module _ (links : List Link) (r : Row) where
+  before : (i : ℕ) → i < length links → link_at (links ++ last_link r ∷ []) i ≡ link_at links i
+  before i lt = get_or_append_left links (last_link r ∷ []) unlinked i lt
 
-  -- at a row of another symbol
-  step_other : (m : ℕ) → m < len → (symbol_at rows m ≡ s → ⊥) → Least (len + 1) (symbol_at rows') (symbol_at rows m) (m + 1) (get_or next' m 0)
-  step_other m ml ne =
-      let mb : m ≡ b → ⊥ = λ q. ne (ap (symbol_at rows) q ∙ tail_was.0 (subst (λ k. k < len) q ml)) in
-      subst (Least (len + 1) (symbol_at rows') (symbol_at rows m) (m + 1)) (sym (n.others m ml mb))
-      (least_other len s (symbol_at rows) (symbol_at rows') n.same n.here n.room (symbol_at rows m) (m + 1) (get_or next m 0) ne (h.steps m ml))
+  added : link_at (links ++ last_link r ∷ []) (length links) ≡ last_link r
+  added = let e : length links ≡ length links + 0 = omega arith in ap (link_at (links ++ last_link r ∷ [])) e ∙ get_or-append-add links (last_link r ∷ []) 0 unlinked
 
-  step_new : Least (len + 1) (symbol_at rows') (symbol_at rows' len) (len + 1) (get_or next' len 0)
-  step_new =
-      subst (λ k. Least (len + 1) (symbol_at rows') k (len + 1) (get_or next' len 0)) (sym n.here)
-      (subst (Least (len + 1) (symbol_at rows') s (len + 1)) (sym n.end) (least_none len s (symbol_at rows) (symbol_at rows') n.same n.here n.room))
+  one_more : length (links ++ last_link r ∷ []) ≡ length links + 1
+  one_more = length-append links (last_link r ∷ [])
 
-  steps_more : (m : ℕ) → m < len + 1 → Least (len + 1) (symbol_at rows') (symbol_at rows' m) (m + 1) (get_or next' m 0)
-  steps_more m ml =
-      ⊎_elim
-      (λ (lt : m < len).
-      subst (λ k. Least (len + 1) (symbol_at rows') k (m + 1) (get_or next' m 0)) (sym (n.same m lt))
-      (⊎_elim (λ (e : symbol_at rows m ≡ s). subst (λ k. Least (len + 1) (symbol_at rows') k (m + 1) (get_or next' m 0)) (sym e) (step_s m lt e))
-      (λ (ne : symbol_at rows m ≡ s → ⊥). step_other m lt ne) (cases_eq (symbol_at rows m) s)))
-      (λ (ge : len ≤ m).
-      let e : len ≡ m = omega arith in
-      subst (λ k. Least (len + 1) (symbol_at rows') (symbol_at rows' k) (k + 1) (get_or next' k 0)) e step_new)
-      (cases_lt m len)
+abbrev Stepped : ℕ → List Link → Type 0
+Stepped n links = (i : ℕ) → i < n → Least n (symbol_at links) (symbol_at links i) (i + 1) (link_at links i).next
 
-  tails_more : (t : ℕ) → t < 256 → Last (len + 1) (symbol_at rows') t (get_or last' t 0)
-  tails_more t tl =
-      ⊎_elim
-      (λ (e : t ≡ s).
-      subst (λ k. Last (len + 1) (symbol_at rows') k (get_or last' k 0)) (sym e)
-      (subst (Last (len + 1) (symbol_at rows') s) (sym n.tail) (last_new len s (symbol_at rows) (symbol_at rows') n.same n.here n.room)))
-      (λ (ne : t ≡ s → ⊥).
-      subst (Last (len + 1) (symbol_at rows') t) (sym (n.tails t ne))
-      (last_other len s (symbol_at rows) (symbol_at rows') n.same n.here n.room t (get_or last t 0) ne (h.tails t tl)))
-      (cases_eq t s)
+module _ (links : List Link) (ends : List (Option Ends)) (r : Row) (long : length ends ≡ 256) (small : r.symbol < 256) (h : Chained links ends) where
+  abbrev len : ℕ
+  len = length links
 
-  pub chained_more : Chained (len + 1) rows' next' first' last'
-  chained_more = record { heads = heads_more; steps = steps_more; tails = tails_more }
+  -- the symbol's ends as the row is told
+  was : (o : Option Ends) → get_or ends r.symbol None ≡ o → Spans len (symbol_at links) r.symbol o
+  was o e = subst (Spans len (symbol_at links) r.symbol) e (h.spans r.symbol small)
+
+  module _ (new : ℕ → ℕ) (same : (i : ℕ) → i < len → new i ≡ symbol_at links i) (here : new len ≡ r.symbol) (e : Ends) (now : Spans (len + 1) new r.symbol (Some e)) where
+    spans_now : (t : ℕ) → t < 256 → Spans (len + 1) new t (get_or (set ends r.symbol (Some e)) t None)
+    spans_now t lt =
+        ⊎_elim
+        (λ (q : t ≡ r.symbol).
+        subst (λ k. Spans (len + 1) new k (get_or (set ends r.symbol (Some e)) k None)) (sym q)
+        (subst (Spans (len + 1) new r.symbol) (sym (get_or-set_same ends r.symbol (Some e) None (omega arith))) now))
+        (λ (ne : t ≡ r.symbol → ⊥).
+        subst (Spans (len + 1) new t) (sym (get_or-set_other ends r.symbol t (Some e) None ne))
+        (spans_other len r.symbol (symbol_at links) new same here t (get_or ends t None) ne (h.spans t lt)))
+        (cases_eq t r.symbol)
+
+  pub chained_first : get_or ends r.symbol None ≡ None → Chained (links ++ last_link r ∷ []) (set ends r.symbol (Some (record { first = len; last = len })))
+  chained_first none =
+      let links' = links ++ last_link r ∷ [] in
+      let same : (i : ℕ) → i < len → symbol_at links' i ≡ symbol_at links i = λ i lt. ap (λ (l : Link). l.row.symbol) (before links r i lt) in
+      let here : symbol_at links' len ≡ r.symbol = ap (λ (l : Link). l.row.symbol) (added links r) in
+      let free = was None none in
+      record {
+        spans = subst (λ n. (t : ℕ) → t < 256 → Spans n (symbol_at links') t (get_or (set ends r.symbol (Some (record { first = len; last = len }))) t None)) (sym (one_more links r))
+            (spans_now (symbol_at links') same here (record { first = len; last = len }) (spans_first len r.symbol (symbol_at links) (symbol_at links') same here free));
+        steps = subst (λ n. Stepped n links') (sym (one_more links r))
+            (steps_first len r.symbol (symbol_at links) (symbol_at links') same here (λ i. (link_at links i).next) (λ i. (link_at links' i).next) (ap (λ (l : Link). l.next) (added links r)) h.steps free
+            (λ i lt. ap (λ (l : Link). l.next) (before links r i lt)));
+      }
+
+  module _ (e : Ends) (some : get_or ends r.symbol None ≡ Some e) where
+    abbrev linked : List Link
+    linked = set links e.last (record (link_at links e.last) { next = Some len })
+
+    last_is : (e.last < len) × (symbol_at links e.last ≡ r.symbol) × Least len (symbol_at links) r.symbol (e.last + 1) None
+    last_is = (was (Some e) some).1
+
+    linked_long : length linked ≡ len
+    linked_long = length-set links e.last (record (link_at links e.last) { next = Some len })
+
+    at_last : link_at linked e.last ≡ record (link_at links e.last) { next = Some len }
+    at_last = get_or-set_same links e.last (record (link_at links e.last) { next = Some len }) unlinked last_is.0
+
+    at_other : (i : ℕ) → (i ≡ e.last → ⊥) → link_at linked i ≡ link_at links i
+    at_other i ne = get_or-set_other links e.last i (record (link_at links e.last) { next = Some len }) unlinked ne
+
+    same_symbol : (i : ℕ) → symbol_at linked i ≡ symbol_at links i
+    same_symbol i =
+        ⊎_elim (λ (q : i ≡ e.last). ap (symbol_at linked) q ∙ ap (λ (l : Link). l.row.symbol) at_last ∙ ap (symbol_at links) (sym q))
+        (λ (ne : i ≡ e.last → ⊥). ap (λ (l : Link). l.row.symbol) (at_other i ne)) (cases_eq i e.last)
+
+    pub chained_linked : Chained (linked ++ last_link r ∷ []) (set ends r.symbol (Some (record { first = e.first; last = len })))
+    chained_linked =
+        let links' = linked ++ last_link r ∷ [] in
+        let longer : length links' ≡ len + 1 = one_more linked r ∙ ap (λ n. n + 1) linked_long in
+        let kept : (i : ℕ) → i < len → link_at links' i ≡ link_at linked i = λ i lt. before linked r i (let q = linked_long in omega arith) in
+        let new : link_at links' len ≡ last_link r = ap (link_at links') (sym linked_long) ∙ added linked r in
+        let same : (i : ℕ) → i < len → symbol_at links' i ≡ symbol_at links i = λ i lt. ap (λ (l : Link). l.row.symbol) (kept i lt) ∙ same_symbol i in
+        let here : symbol_at links' len ≡ r.symbol = ap (λ (l : Link). l.row.symbol) new in
+        record {
+          spans = subst (λ n. (t : ℕ) → t < 256 → Spans n (symbol_at links') t (get_or (set ends r.symbol (Some (record { first = e.first; last = len }))) t None)) (sym longer)
+              (spans_now (symbol_at links') same here (record { first = e.first; last = len }) (spans_last len r.symbol (symbol_at links) (symbol_at links') same here e (was (Some e) some)));
+          steps = subst (λ n. Stepped n links') (sym longer)
+              (steps_linked len r.symbol (symbol_at links) (symbol_at links') same here (λ i. (link_at links i).next) (λ i. (link_at links' i).next) (ap (λ (l : Link). l.next) new) h.steps
+              e.last last_is.0 last_is.1 last_is.2
+              (λ i lt ne. ap (λ (l : Link). l.next) (kept i lt ∙ at_other i ne)) (ap (λ (l : Link). l.next) (kept e.last last_is.0 ∙ at_last)));
+        }
+
+pub chain_none : (ends : List (Option Ends)) → ((s : ℕ) → s < 256 → get_or ends s None ≡ None) → ∥ Chained [] ends ∥₁
+chain_none ends f =
+    ∣ record {
+      spans = λ s lt. subst (Spans 0 (symbol_at []) s) (sym (f s lt)) (λ i p. absurd (omega (arith, p.1)));
+      steps = λ i lt. absurd (omega arith);
+    } ∣₁

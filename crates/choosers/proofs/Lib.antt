@@ -1,4 +1,3 @@
-pub mod RowLaws
 pub mod ChainLaws
 pub mod NoteLaws
 pub mod PickLaws

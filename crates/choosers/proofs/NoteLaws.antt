@@ -1,65 +1,62 @@
 -- What a note writes is a row more.
-use Rattle.std.proofs.Common.{◌≡◌, ℕ, ◌+◌, ◌<◌, ◌≤◌, List, length, get_or, set, refl, ap, ◌∙◌, arith}
+use Rattle.std.proofs.Common.{◌≡◌, ℕ, ◌<◌, List, [], ◌∷◌, ◌++◌, map, length, get_or, take, drop, set, Some, None, Option, sym, refl, ap, ◌∙◌, subst, length-set, arith}
 use mathlib.Core.Logic.{∥∥₁_elim, ∥∥₁_prop}
-use Rattle.std.proofs.lemmas.List.{get_or-set_same, get_or-set_other, length-set}
+use Rattle.std.specs.List.{refill}
+use Rattle.std.proofs.Math.Seq.{take-append_seam, map-set_same}
+use Rattle.std.proofs.lemmas.List.{map-append, length-map}
+use Rattle.std.proofs.lemmas.Bool.{cond-true, lt-ltb}
 use Rattle.choosers.specs.declared.row.Row.{Row}
-use Rattle.choosers.specs.Chained.{none, Chained}
-use Rattle.choosers.specs.Rows.{blank}
-use Rattle.choosers.proofs.ChainLaws.{Noted, chained_more}
+use Rattle.choosers.specs.declared.chains.Link.{Link}
+use Rattle.choosers.specs.declared.chains.Ends.{Ends}
+use Rattle.choosers.specs.Chained.{link_at, Chained}
+use Rattle.choosers.specs.Rows.{blank, noted}
+use Rattle.choosers.proofs.ChainLaws.{last_link, chained_first, chained_linked}
 
-module _ (len : ℕ) (rows : List Row) (next first last : List ℕ) (r : Row) (b : ℕ) (rl : length rows ≡ 256) (nl : length next ≡ 256) (fl : length first ≡ 256) (ll : length last ≡ 256) (small : r.symbol < 256) (was : get_or last r.symbol 0 ≡ b) (room : len < 256) where
-  kept : (i : ℕ) → i < len → get_or (set rows len r) i blank ≡ get_or rows i blank
-  kept i lt = get_or-set_other rows len i r blank (λ e. absurd (omega arith))
+-- a slice as long as what it was lent from
+refilled : (xs ws : List Link) → length ws ≡ length xs → refill (length xs) xs ws ≡ ws
+refilled xs ws e = ap (λ n. take n (ws ++ drop (length ws) xs)) (sym e) ∙ take-append_seam ws (drop (length ws) xs)
 
-  placed : get_or (set rows len r) len blank ≡ r
-  placed = get_or-set_same rows len r blank (omega arith)
+abbrev linked : List Link → ℕ → ℕ → List Link
+linked xs b n = set xs b (record { row = (link_at xs b).row; next = Some n })
 
-  -- the first row of its symbol
-  noted_new : len ≤ b → Noted len rows (set rows len r) next (set next len none) first (set first r.symbol len) last (set last r.symbol len) r.symbol b
-  noted_new ge = record {
-    room = omega arith;
-    same = λ i lt. ap (λ x. x.symbol) (kept i lt);
-    here = ap (λ x. x.symbol) placed;
-    end = get_or-set_same next len none 0 (omega arith);
-    others = λ i lt ne. get_or-set_other next len i none 0 (λ e. absurd (omega arith));
-    linked = λ lt. absurd (omega arith);
-    heads = λ t ne. get_or-set_other first r.symbol t len 0 ne;
-    head_kept = λ lt. absurd (omega arith);
-    head_new = λ _. get_or-set_same first r.symbol len 0 (omega arith);
-    tails = λ t ne. get_or-set_other last r.symbol t len 0 ne;
-    tail = get_or-set_same last r.symbol len 0 (omega arith);
-    was = was;
-  }
+-- the links that a note leaves where row b was the last of the symbol
+link_written : (xs ds new : List Link) (r : Row) (b n : ℕ) → ds ≡ xs → n ≡ length xs → new ≡ refill (length xs) xs (linked ds b n) ++ last_link r ∷ [] → new ≡ linked xs b (length xs) ++ last_link r ∷ []
+link_written xs ds new r b n d e h =
+    h ∙ ap (λ (ys : List Link). refill (length xs) xs (linked ys b n) ++ last_link r ∷ []) d
+    ∙ ap (λ (m : ℕ). refill (length xs) xs (linked xs b m) ++ last_link r ∷ []) e
+    ∙ ap (λ (ys : List Link). ys ++ last_link r ∷ []) (refilled xs (linked xs b (length xs)) (length-set xs b (record { row = (link_at xs b).row; next = Some (length xs) })))
 
-  -- the next row after b
-  noted_linked : b < len → Noted len rows (set rows len r) next (set (set next len none) b len) first first last (set last r.symbol len) r.symbol b
-  noted_linked lt =
-      let long : length (set next len none) ≡ 256 = length-set next len none ∙ nl in
-      record {
-        room = omega arith;
-        same = λ i il. ap (λ x. x.symbol) (kept i il);
-        here = ap (λ x. x.symbol) placed;
-        end = get_or-set_other (set next len none) b len len 0 (λ e. absurd (omega arith)) ∙ get_or-set_same next len none 0 (omega arith);
-        others = λ i il ne. get_or-set_other (set next len none) b i len 0 ne ∙ get_or-set_other next len i none 0 (λ e. absurd (omega arith));
-        linked = λ _. get_or-set_same (set next len none) b len 0 (omega arith);
-        heads = λ t ne. refl;
-        head_kept = λ _. refl;
-        head_new = λ ge. absurd (omega arith);
-        tails = λ t ne. get_or-set_other last r.symbol t len 0 ne;
-        tail = get_or-set_same last r.symbol len 0 (omega arith);
-        was = was;
-      }
+module _ (xs : List Link) (ends : List (Option Ends)) (r : Row) (new : List Link) (n first : ℕ) (long : length ends ≡ 256) (small : r.symbol < 256) (at : n ≡ length xs) (t : ∥ Chained xs ends ∥₁) where
+  pub chain_first : get_or ends r.symbol None ≡ None → first ≡ n → new ≡ xs ++ last_link r ∷ [] → ∥ Chained new (set ends r.symbol (Some (record { first = first; last = n }))) ∥₁
+  chain_first none f h =
+      ∥∥₁_elim t ∥∥₁_prop (λ c.
+      let d = chained_first xs ends r long small c none in
+      ∣ subst (λ (ys : List Link). Chained ys (set ends r.symbol (Some (record { first = first; last = n })))) (sym h)
+      (subst (λ k. Chained (xs ++ last_link r ∷ []) (set ends r.symbol (Some (record { first = k; last = n })))) (sym (f ∙ at))
+      (subst (λ k. Chained (xs ++ last_link r ∷ []) (set ends r.symbol (Some (record { first = length xs; last = k })))) (sym at) d)) ∣₁)
 
-  pub chain_new : len ≤ b → ∥ Chained len rows next first last ∥₁ → ∥ Chained (len + 1) (set rows len r) (set next len none) (set first r.symbol len) (set last r.symbol len) ∥₁
-  chain_new ge t = ∥∥₁_elim t ∥∥₁_prop (λ h. ∣ chained_more _ _ _ _ _ _ _ _ _ _ b small (noted_new ge) h ∣₁)
+  pub chain_linked : (e : Ends) (ds : List Link) → get_or ends r.symbol None ≡ Some e → first ≡ e.first → ds ≡ xs → new ≡ refill (length xs) xs (linked ds e.last n) ++ last_link r ∷ []
+      → ∥ Chained new (set ends r.symbol (Some (record { first = first; last = n }))) ∥₁
+  chain_linked e ds some f lent h =
+      ∥∥₁_elim t ∥∥₁_prop (λ c.
+      let d = chained_linked xs ends r long small c e some in
+      ∣ subst (λ (ys : List Link). Chained ys (set ends r.symbol (Some (record { first = first; last = n })))) (sym (link_written xs ds new r e.last n lent at h))
+      (subst (λ k. Chained (linked xs e.last (length xs) ++ last_link r ∷ []) (set ends r.symbol (Some (record { first = k; last = n })))) (sym f)
+      (subst (λ k. Chained (linked xs e.last (length xs) ++ last_link r ∷ []) (set ends r.symbol (Some (record { first = e.first; last = k })))) (sym at) d)) ∣₁)
 
-  pub chain_linked : b < len → ∥ Chained len rows next first last ∥₁ → ∥ Chained (len + 1) (set rows len r) (set (set next len none) b len) first (set last r.symbol len) ∥₁
-  chain_linked lt t = ∥∥₁_elim t ∥∥₁_prop (λ h. ∣ chained_more _ _ _ _ _ _ _ _ _ _ b small (noted_linked lt) h ∣₁)
+abbrev pub rows : List Link → List Row
+rows xs = map (λ (l : Link). l.row) xs
 
-pub chain_none : (rows : List Row) (next first last : List ℕ) → ((s : ℕ) → s < 256 → get_or first s 0 ≡ none) → ((s : ℕ) → s < 256 → get_or last s 0 ≡ none) → ∥ Chained 0 rows next first last ∥₁
-chain_none rows next first last f l =
-    ∣ record {
-      heads = λ s h. (λ i p. absurd (omega (arith, p.1)), λ lt. absurd (omega arith), λ lt. absurd (omega arith), λ _. f s h);
-      steps = λ m h. absurd (omega arith);
-      tails = λ s h. (λ lt. absurd (omega arith), λ i p. absurd (omega (arith, p.1)), λ _. l s h, λ i p. absurd (omega (arith, p.1)));
-    } ∣₁
+module _ (xs : List Link) (r : Row) (room : length xs < 256) where
+  pub rows_more : rows (xs ++ last_link r ∷ []) ≡ noted (rows xs) r
+  rows_more =
+      map-append (λ (l : Link). l.row) xs (last_link r ∷ [])
+      ∙ sym (cond-true _ _ _ (lt-ltb (length (rows xs)) 256 (omega (arith, length-map xs (λ (l : Link). l.row)))))
+
+  pub rows_linked : (ds new : List Link) (b n : ℕ) → ds ≡ xs → n ≡ length xs → new ≡ refill (length xs) xs (linked ds b n) ++ last_link r ∷ [] → rows new ≡ noted (rows xs) r
+  rows_linked ds new b n d e h =
+      ap rows (link_written xs ds new r b n d e h)
+      ∙ map-append (λ (l : Link). l.row) (linked xs b (length xs)) (last_link r ∷ [])
+      ∙ ap (λ (ys : List Row). ys ++ r ∷ []) (map-set_same (λ (l : Link). l.row) xs b (record { row = (link_at xs b).row; next = Some (length xs) }) (record { row = blank; next = None }) refl)
+      ∙ sym (map-append (λ (l : Link). l.row) xs (last_link r ∷ []))
+      ∙ rows_more

@@ -1,18 +1,36 @@
 // Rows in fixed memory, in a chain for each symbol.
-ghost use Rattle.std.specs.Prelude.{◌≡◌, ◌≤◌, length};
+ghost use Rattle.std.specs.Prelude.{◌≤◌, length};
 ghost use Rattle.choosers.specs.Chained.{Chained};
 
 use crate::row::Row;
+use arrayvec::ArrayVec;
 
-// The rows, counted from 0 here, each with the next one of its symbol; and of each symbol the first and the last.
+// The most rows.
+pub(crate) const ROW_LIMIT: usize = 256;
+
+// The symbols of 8 bits.
+pub(crate) const SYMBOL_LIMIT: usize = 256;
+
+// A row, and the next one of its symbol; rows count from 0 here.
+#[derive(Clone, Copy, Default)]
+pub struct Link {
+    pub(crate) row: Row,
+    pub(crate) next: Option<u8>,
+}
+
+// The first and the last row of a symbol.
+#[derive(Clone, Copy)]
+pub struct Ends {
+    pub(crate) first: u8,
+    pub(crate) last: u8,
+}
+
+// No Model: a `Chooser` has its rows as a ghost.
 #[derive(Drop)]
 pub struct Chains {
-    pub(crate) rows: [Row; 256],
-    pub(crate) next: [u16; 256],
-    pub(crate) first: [u16; 256],
-    pub(crate) last: [u16; 256],
-    pub(crate) len: u16,
-    ghost within: { len ≤ 256 },
-    ghost whole: { length rows ≡ 256 },
-    ghost chained: { ∥ Chained len rows next first last ∥₁ },
+    pub(crate) links: ArrayVec<Link, ROW_LIMIT>,
+    // of each symbol that has a row
+    pub(crate) ends: [Option<Ends>; SYMBOL_LIMIT],
+    ghost few: { length links.items ≤ 256 },
+    ghost chained: { ∥ Chained links.items ends ∥₁ },
 }

@@ -4,9 +4,8 @@ ghost use Rattle.choosers.specs.Picks.{Has};
 ghost use Rattle.choosers.specs.Rows.{Clash, row_of};
 
 use crate::chooser::Chooser;
-use crate::first_argument::FirstArgument;
 use crate::row::Row;
-use crate::straight::Straight;
+use crate::walker::{FirstArgument, Straight};
 
 // Whether row m is picked for the goal, where each pick goes on from the one before: only a row of the symbol is, and each that does not clash.
 pub fn offers<C: Chooser>(chooser: &C, symbol: u8, key: u16, m: usize) -> bool
@@ -27,8 +26,9 @@ pub fn both_offer(row: Row) -> bool
     ensures { result ≡ true }
 {
     let mut straight = Straight::new();
-    straight.note(row);
     let mut first_argument = FirstArgument::new();
-    first_argument.note(row);
-    offers(&straight, row.symbol, row.key, 1) && offers(&first_argument, row.symbol, row.key, 1)
+    straight.note(row).is_ok()
+        && first_argument.note(row).is_ok()
+        && offers(&straight, row.symbol, row.key, 1)
+        && offers(&first_argument, row.symbol, row.key, 1)
 }

@@ -4,13 +4,11 @@
 mod chains;
 mod chooser;
 mod every;
-mod first_argument;
 mod row;
-mod straight;
 mod walk;
+mod walker;
 
 pub use chooser::Chooser;
 pub use every::{both_offer, offers};
-pub use first_argument::FirstArgument;
 pub use row::Row;
-pub use straight::Straight;
+pub use walker::{FirstArgument, Straight, Walker};

@@ -1,20 +1,13 @@
 // Chains: noting a row, and walking along the rows of one symbol.
-ghost use Rattle.std.specs.Prelude.{◌≡◌, [], length, MatchBool, nat_lt};
+ghost use Rattle.std.specs.Prelude.{◌≡◌, [], length, MatchBool, is_ok, nat_lt};
 ghost use Rattle.choosers.specs.Chained.{Starts};
 ghost use Rattle.choosers.specs.Kept.{rows_of};
 ghost use Rattle.choosers.specs.Picks.{Finds};
 ghost use Rattle.choosers.specs.Rows.{Clash, noted, row_at};
 
-use crate::chains::Chains;
+use crate::chains::{Chains, Ends, Link, SYMBOL_LIMIT};
 use crate::row::Row;
-
-// The number of rows, at most.
-const LIMIT: u16 = 256;
-
-// No row.
-const NONE: u16 = 65535;
-
-const BLANK: Row = Row { symbol: 0, key: 0 };
+use arrayvec::{ArrayVec, CapacityError};
 
 // Whether both keys are above 0 and differ.
 fn clashes(key: u16, other: u16) -> bool
@@ -28,52 +21,42 @@ impl Chains {
         ensures { rows_of result ≡ [] }
     {
         Chains {
-            rows: [BLANK; 256],
-            next: [NONE; 256],
-            first: [NONE; 256],
-            last: [NONE; 256],
-            len: 0,
+            links: ArrayVec::new(),
+            ends: [None; SYMBOL_LIMIT],
         }
     }
 
     pub(crate) fn empty(&mut self)
         ensures { rows_of self.new ≡ [] }
     {
-        self.first = [NONE; 256];
-        self.last = [NONE; 256];
-        self.len = 0;
+        self.links.clear();
+        self.ends = [None; SYMBOL_LIMIT];
     }
 
-    pub(crate) fn note(&mut self, row: Row) -> bool
-        ensures taken { result ≡ nat_lt (length (rows_of self.old)) 256 }
+    pub(crate) fn note(&mut self, row: Row) -> Result<(), CapacityError>
+        ensures taken { is_ok result ≡ nat_lt (length (rows_of self.old)) 256 }
         ensures rows { rows_of self.new ≡ noted (rows_of self.old) row }
     {
-        let at = self.len;
-        if at >= LIMIT {
-            return false;
+        if self.links.is_full() {
+            return Err(CapacityError::new(()));
         }
+        let at = self.links.len() as u8;
         let s = row.symbol as usize;
-        let i = at as usize;
-        self.rows[i] = row;
-        self.next[i] = NONE;
-        self.len = at + 1;
-        let before = self.last[s];
-        self.last[s] = at;
-        if before < at {
-            self.next[before as usize] = at;
-            return true;
+        let mut first = at;
+        if let Some(ends) = self.ends[s] {
+            self.links[ends.last as usize].next = Some(at);
+            first = ends.first;
         }
-        self.first[s] = at;
-        true
+        self.ends[s] = Some(Ends { first, last: at });
+        self.links.push(Link { row, next: None });
+        Ok(())
     }
 
     pub(crate) fn row(&self, m: usize) -> Option<Row>
         ensures { result ≡ row_at (rows_of self.now) m }
     {
-        if m == 0 || m > self.len as usize {
-            return None;
-        }
-        Some(self.rows[m - 1])
+        let link = self.links.get(m.checked_sub(1)?)?;
+        Some(link.row)
     }
 
     // The symbol's first row above `after` that does not clash with the key.
@@ -81,24 +64,24 @@ impl Chains {
         ensures { Finds (rows_of self.now) symbol key after result }
     {
         let mut at = self.start(symbol, after);
-        while at < self.len {
-            let i = at as usize;
-            let row = self.rows[i];
-            if i >= after && !clashes(key, row.key) {
+        while let Some(n) = at {
+            let i = n as usize;
+            let link = self.links[i];
+            if i >= after && !clashes(key, link.row.key) {
                 return Some(i + 1);
             }
-            at = self.next[i];
+            at = link.next;
         }
         None
     }
 
     // Where the walk to the symbol's rows above `after` starts: at the row next to `after` in its chain where `after` has the symbol, else at the symbol's first.
-    fn start(&self, symbol: u8, after: usize) -> u16
-        ensures { Starts self.now.len self.now.rows symbol after result }
+    fn start(&self, symbol: u8, after: usize) -> Option<u8>
+        ensures { Starts self.now.links.items symbol after result }
     {
-        if after > 0 && after <= self.len as usize && self.rows[after - 1].symbol == symbol {
-            return self.next[after - 1];
+        if after > 0 && after <= self.links.len() && self.links[after - 1].row.symbol == symbol {
+            return self.links[after - 1].next;
         }
-        self.first[symbol as usize]
+        Some(self.ends[symbol as usize]?.first)
     }
 }

@@ -1,18 +1,34 @@
 -- V6 as a pass.
-use Rattle.std.proofs.Common.{◌≡◌, ℕ, zero, suc, ◌+◌, ◌-◌, ◌<◌, ◌≤◌, min, Bool, true, false, cond, ◌&&◌, eqb, ltb, leb, List, [], ◌∷◌, map, length, get_or, drop, set, replicate, Some, None, Option, sym, refl, ap, ◌∙◌, inl, inr, arith}
+use Rattle.std.proofs.Common.{◌≡◌, ℕ, zero, suc, ◌+◌, ◌-◌, ◌<◌, ◌≤◌, min, Bool, true, false, cond, ◌&&◌, eqb, ltb, leb, List, [], ◌∷◌, map, length, get_or, drop, set, replicate, Some, None, Option, sym, refl, ap, ap₂, ◌∙◌, inl, inr, arith}
 use Rattle.std.proofs.lemmas.List.{get_or-set_same, get_or-set_other, get_or-replicate, length-set, length-replicate, at_drop_more}
-use Rattle.std.proofs.lemmas.Bool.{eqb-true, eqb-false, eq-eqb, ne_eqb, and_parts, and_from, ltb-true, ltb-false, leb-true, le-leb, le-ltb, lt-ltb, cases_eq, cases_lt, cond-true, cond-false}
+use Rattle.std.specs.List.{list_all, range_with_len}
+use Rattle.std.proofs.lemmas.List.Folds.{list_all-map, list_all-append}
+use Rattle.std.proofs.lemmas.List.FromFn.{map-range_with_len_more}
+use Rattle.std.proofs.Math.Bool.{and-true}
+use Rattle.std.proofs.lemmas.Bool.{eqb-true, eqb-false, eq-eqb, ne_eqb, and_parts, and_from, ltb-true, ltb-false, leb-true, leb-false, le-leb, le-ltb, lt-ltb, cases_eq, cases_lt, cond-true, cond-false}
 use Rattle.code.specs.declared.instructions.Instruction.{Instruction}
 use Rattle.code.specs.Instructions.{called, put}
 use Rattle.code.specs.Words.{decode}
 use Rattle.code.specs.Tests.{every, total, below, chosen}
 use Rattle.code.specs.Rules.{filled, calls}
+use Rattle.code.proofs.SlotLaws.{below_false}
 use Rattle.code.specs.Passes.{onward, walk, bump, note_arg, wanted, full, notes, call_next}
 
 pub both_true : (a b : Bool) → (a ≡ true → b ≡ true) → (b ≡ true → a ≡ true) → a ≡ b
 both_true true b f g = sym (f refl)
 both_true false true f g = g refl
 both_true false false f g = refl
+
+-- the library's test of the numbers below n
+pub below_range : (n : ℕ) (p : ℕ → Bool) → list_all p (range_with_len 0 n) ≡ below n p
+below_range zero p = refl
+below_range (suc n) p =
+    let more : suc n ≡ n + 1 = omega arith in
+    ap (λ k. list_all p (range_with_len 0 k)) more
+    ∙ sym (list_all-map (λ b. b) p (range_with_len 0 (n + 1)))
+    ∙ ap (list_all (λ b. b)) (map-range_with_len_more p 0 n n (omega arith))
+    ∙ list_all-append (λ b. b) (map p (range_with_len 0 n)) (p n ∷ [])
+    ∙ ap₂ (λ (a b : Bool). a && b) (list_all-map (λ b. b) p (range_with_len 0 n) ∙ below_range n p) (and-true (p n))
 
 pub below_at : (n : ℕ) (p : ℕ → Bool) → below n p ≡ true → (a : ℕ) → a < n → p a ≡ true
 below_at zero p h a l = absurd (omega arith)
@@ -62,6 +78,9 @@ nones = replicate 9 0
 pub stands_none : (N : ℕ → ℕ) → ((a : ℕ) → N a ≡ 0) → Stands nones N
 stands_none N z = record { long = length-replicate {A = ℕ} 9 0; counted = λ a h. get_or-replicate {A = ℕ} 9 a 0 0 (omega arith) ∙ ap (min 2) (sym (z a)) }
 
+abbrev pub once : ℕ → List ℕ → Bool
+once m counts = below 8 (λ a. eqb (get_or counts (a + 1) 0) (wanted m a))
+
 module _ (arg : Instruction → ℕ) (m : ℕ) (low : m ≤ 8) where
   none_beyond : (ws : List Instruction) (b : ℕ) → every (λ w. leb (arg w) m) ws ≡ true → m < b → met arg ws b ≡ 0
   none_beyond [] b h l = refl
@@ -86,10 +105,10 @@ module _ (arg : Instruction → ℕ) (m : ℕ) (low : m ≤ 8) where
       (elim (cases_lt m (arg w)) [ inl l ↦ absurd ((less (arg w) w ws (f (arg w) l k)).1 refl) | inr g ↦ le-leb (arg w) m g ])
       (all_within ws p.1 (λ b l u. (less b w ws (f b l u)).0))
 
-  pub full_is : (counts : List ℕ) (ws : List Instruction) → Stands counts (met arg ws) → every (λ w. leb (arg w) 8) ws ≡ true → full m counts ≡ filled arg m ws
-  full_is counts ws s small = both_true (full m counts) (filled arg m ws) into back
+  once_is : (counts : List ℕ) (ws : List Instruction) → Stands counts (met arg ws) → every (λ w. leb (arg w) 8) ws ≡ true → once m counts ≡ filled arg m ws
+  once_is counts ws s small = both_true (once m counts) (filled arg m ws) into back
     where
-      into : full m counts ≡ true → filled arg m ws ≡ true
+      into : once m counts ≡ true → filled arg m ws ≡ true
       into h =
           and_from (below m (λ a. eqb (met arg ws (a + 1)) 1)) (every (λ w. leb (arg w) m) ws)
           (below_all m (λ a. eqb (met arg ws (a + 1)) 1) (λ a l.
@@ -106,7 +125,7 @@ module _ (arg : Instruction → ℕ) (m : ℕ) (low : m ≤ 8) where
           let z : met arg ws (a + 1) ≡ 0 = omega arith in
           ap (met arg ws) (sym k) ∙ z))
 
-      back : filled arg m ws ≡ true → full m counts ≡ true
+      back : filled arg m ws ≡ true → once m counts ≡ true
       back h =
           let p = and_parts (below m (λ a. eqb (met arg ws (a + 1)) 1)) (every (λ w. leb (arg w) m) ws) h in
           below_all 8 (λ a. eqb (get_or counts (a + 1) 0) (wanted m a)) (λ a l.
@@ -121,6 +140,17 @@ module _ (arg : Instruction → ℕ) (m : ℕ) (low : m ≤ 8) where
                 let none : wanted m a ≡ 0 = cond-false (ltb a m) 1 0 (le-ltb a m g) in
                 eq-eqb (get_or counts (a + 1) 0) (wanted m a) (omega arith)
           ])
+
+-- no argument beyond the last is met, so none of more than there are is filled
+full_is : (arg : Instruction → ℕ) (m : ℕ) (counts : List ℕ) (ws : List Instruction) → Stands counts (met arg ws) → every (λ w. leb (arg w) 8) ws ≡ true → full m counts ≡ filled arg m ws
+full_is arg m counts ws s small = go (leb m 8) refl
+  where
+    go : (t : Bool) → leb m 8 ≡ t → (t && once m counts) ≡ filled arg m ws
+    go true e = once_is arg m (leb-true m 8 e) counts ws s small
+    go false e =
+        let l = leb-false m 8 e in
+        let z = none_beyond arg 8 (omega arith) ws 9 small (omega arith) in
+        sym (ap (λ t. t && every (λ w. leb (arg w) m) ws) (below_false m (λ a. eqb (met arg ws (a + 1)) 1) 8 (omega arith) (ap (λ n. eqb n 1) z)))
 
 -- the head
 pub stands_notes : (arg : Instruction → ℕ) (ws : List Instruction) (counts : List ℕ) (N M : ℕ → ℕ) → Stands counts N → every (λ w. leb (arg w) 8) ws ≡ true → ((a : ℕ) → M a ≡ met arg ws a + N a) → Stands (notes arg counts ws) M
@@ -140,9 +170,9 @@ stands_notes arg (w ∷ ws) counts N M s h m =
         let y : cond (eqb (arg w) a) (suc (N a)) (N a) ≡ N a = cond-false (eqb (arg w) a) _ _ e in
         let z = m a in omega arith
 
-pub head_is : (arg : Instruction → ℕ) (m : ℕ) → m ≤ 8 → (ws : List Instruction) → every (λ w. leb (arg w) 8) ws ≡ true → full m (notes arg nones ws) ≡ filled arg m ws
-head_is arg m low ws h =
-    full_is arg m low (notes arg nones ws) ws (stands_notes arg ws nones (λ a. 0) (met arg ws) (stands_none (λ a. 0) (λ a. refl)) h (λ a. omega arith)) h
+pub head_is : (arg : Instruction → ℕ) (m : ℕ) (ws : List Instruction) → every (λ w. leb (arg w) 8) ws ≡ true → full m (notes arg nones ws) ≡ filled arg m ws
+head_is arg m ws h =
+    full_is arg m (notes arg nones ws) ws (stands_notes arg ws nones (λ a. 0) (met arg ws) (stands_none (λ a. 0) (λ a. refl)) h (λ a. omega arith)) h
 
 -- the calls
 pub every_at : (xs : List ℕ) → every (λ a. leb a 8) xs ≡ true → (i : ℕ) → get_or xs i 0 ≤ 8
@@ -153,7 +183,7 @@ every_at (x ∷ xs) h (suc i) = every_at xs (and_parts (leb x 8) (every (λ a. l
 abbrev pub done : List ℕ → Bool
 done counts = true
 
-module _ (ar : List ℕ) (low : every (λ a. leb a 8) ar ≡ true) where
+module _ (ar : List ℕ) where
   turn : (counts : List ℕ) (since : List Instruction) (w : Instruction) (ws : List Instruction) → Stands counts (met put since) → every (λ w. leb (put w) 8) since ≡ true → (o : Option ℕ) → called w ≡ o
       → walk (call_next ar) done nones ws ≡ calls ar [] ws
       → walk (call_next ar) done (note_arg counts (put w)) ws ≡ calls ar (w ∷ since) ws
@@ -161,7 +191,7 @@ module _ (ar : List ℕ) (low : every (λ a. leb a 8) ar ≡ true) where
       ≡ chosen o (λ p. filled put (get_or ar p 0) since && calls ar [] ws) (calls ar (w ∷ since) ws)
   turn counts since w ws s h None e a b = b
   turn counts since w ws s h (Some p) e a b =
-      go (full (get_or ar p 0) counts) ∙ ap (λ t. t && calls ar [] ws) (full_is put (get_or ar p 0) (every_at ar low p) counts since s h)
+      go (full (get_or ar p 0) counts) ∙ ap (λ t. t && calls ar [] ws) (full_is put (get_or ar p 0) counts since s h)
     where
       go : (t : Bool) → onward (cond t (Some nones) None) (λ t. walk (call_next ar) done t ws) ≡ (t && calls ar [] ws)
       go true = a

@@ -1,5 +1,6 @@
 -- V4 as a pass.
 use Rattle.std.proofs.Common.{◌≡◌, ℕ, suc, ◌-◌, Bool, true, false, cond, not, ◌&&◌, ◌||◌, eqb, List, [], ◌∷◌, Some, None, sym, refl, ap, ◌∙◌, ap₂, arith}
+use Rattle.std.proofs.Math.Bool.{and-true}
 use Rattle.std.proofs.lemmas.Bool.{eqb-true, eqb-false, eq-eqb, ne_eqb, and_right}
 use Rattle.code.specs.declared.instructions.Operand.TheVariants.{Fresh, Known, Constant}
 use Rattle.code.specs.declared.instructions.Instruction.{Instruction}
@@ -8,10 +9,10 @@ use Rattle.code.specs.declared.structures.Due.{Due}
 use Rattle.code.specs.Tests.{run, along}
 use Rattle.code.specs.Instructions.{within}
 use Rattle.code.specs.Rules.{unifies, builds, v4}
-use Rattle.code.specs.Passes.{onward, walk, due, due_after, due_step}
+use Rattle.code.specs.Passes.{onward, walk, due, nothing_due, due_after, due_step}
 
 abbrev pub done : Due → Bool
-done s = eqb s.unify 0 && eqb s.set 0
+done s = nothing_due s
 
 abbrev after : List ℕ → Instruction → List Instruction → Bool
 after arities w ws = (within 6 8 w || eqb (run (within 6 8) ws) (unifies arities w)) && (within 13 15 w || eqb (run (within 13 15) ws) (builds arities w))
@@ -81,13 +82,9 @@ module _ (u p r q : ℕ) (v : Bool) (k : Due → Bool) where
       go true false e f = sym (ap (λ x. x && ((eqb r a && eqb q b) && v)) (and_right (eqb 0 u) (eqb 0 p) (eqb_swap 0 p ∙ f)))
       go true true e f = ih ∙ ap₂ (λ x y. (x && y) && ((eqb r a && eqb q b) && v)) (sym (eqb_swap 0 u ∙ e)) (sym (eqb_swap 0 p ∙ f))
 
-true_right : (x : Bool) → x ≡ (x && true)
-true_right true = refl
-true_right false = refl
-
 module _ (arities : List ℕ) where
   pub dues : (ws : List Instruction) (s : Due) → walk (due_step arities) done s ws ≡ ((eqb (run (within 6 8) ws) s.unify && eqb (run (within 13 15) ws) s.set) && along (after arities) ws)
-  dues [] s = ap₂ (λ x y. x && y) (eqb_swap s.unify 0) (eqb_swap s.set 0) ∙ true_right (eqb 0 s.unify && eqb 0 s.set)
+  dues [] s = ap₂ (λ x y. x && y) (eqb_swap s.unify 0) (eqb_swap s.set 0) ∙ sym (and-true (eqb 0 s.unify && eqb 0 s.set))
   dues (Allocate n ∷ ws) s = other_turn s.unify s.set (run (within 6 8) ws) (run (within 13 15) ws) (along (after arities) ws) (λ t. walk (due_step arities) done t ws) (unifies arities (Allocate n)) (builds arities (Allocate n)) (dues ws (due_after arities (Allocate n)))
   dues (GetStructure y f ∷ ws) s = other_turn s.unify s.set (run (within 6 8) ws) (run (within 13 15) ws) (along (after arities) ws) (λ t. walk (due_step arities) done t ws) (unifies arities (GetStructure y f)) (builds arities (GetStructure y f)) (dues ws (due_after arities (GetStructure y f)))
   dues (PutStructure y f ∷ ws) s = other_turn s.unify s.set (run (within 6 8) ws) (run (within 13 15) ws) (along (after arities) ws) (λ t. walk (due_step arities) done t ws) (unifies arities (PutStructure y f)) (builds arities (PutStructure y f)) (dues ws (due_after arities (PutStructure y f)))

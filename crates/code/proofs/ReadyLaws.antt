@@ -16,15 +16,11 @@ use Rattle.code.specs.Ready.{In, Piece, Pieces, Shuns, piece_of, Avoids, Ready}
 use Rattle.code.proofs.WordLaws.{never}
 use Rattle.code.proofs.RangeLaws.{all_ranged, sets_inside}
 use Rattle.code.proofs.ArgumentLaws.{below_at, every_at}
-use Rattle.code.proofs.UseLaws.{kept, well_formed}
+use Rattle.code.proofs.UseLaws.{is_some, kept, well_formed}
 use Rattle.code.proofs.MeaningLaws.{defined}
 
 none_some : {A : Type 0} {y : ℕ} → None ≡ Some y → A
 none_some e = let z : ◌≡◌ {A = ℕ} 0 1 = cc in absurd (omega arith)
-
-is_some : (o : Option ℕ) (y : ℕ) → is o y ≡ true → o ≡ Some y
-is_some None y e = never e
-is_some (Some z) y e = ap Some (eqb-true z y e)
 
 is_same : (o : Option ℕ) (y : ℕ) → o ≡ Some y → is o y ≡ true
 is_same o y e = ap (λ x. is x y) e ∙ eq-eqb y y refl
@@ -366,7 +362,7 @@ ready_code ar predicate key ws low k =
     })
     (record { calls_kept_lem = v6.1; all_put = λ a l h. absurd (omega arith) })
 
-pub runnable : (ar : List ℕ) (predicate key : ℕ) (ws : List ℕ) → every (λ a. leb a 8) ar ≡ true → broken ar predicate key ws ≡ 0 → Runnable ar predicate key ws
+pub runnable : (ar : List ℕ) (predicate key : ℕ) (ws : List ℕ) → every (λ a. leb a 8) ar ≡ true → broken ar predicate key ws ≡ None → Runnable ar predicate key ws
 runnable ar predicate key ws low h =
     let k = kept ar predicate key ws h in
     let r = ready_code ar predicate key ws low k in

@@ -2,39 +2,33 @@
 use Rattle.std.proofs.Common.{◌≡◌, ℕ, zero, suc, ◌<◌, ◌≤◌, Bool, true, false, cond, ◌&&◌, eqb, leb, List, [], ◌∷◌, map, length, get_or, Some, None, Option, sym, refl, ap, ◌∙◌, inl, inr, arith}
 use Rattle.std.proofs.lemmas.Bool.{and_parts, or_cases, eqb-true, leb-true}
 use Rattle.code.specs.declared.instructions.Instruction.{Instruction}
+use Rattle.code.specs.declared.rules.Rule.{Rule}
+use Rattle.code.specs.declared.rules.Rule.TheVariants.{Ranges, Frame, Order, Structures, Slots, Arguments, Key}
 use Rattle.code.specs.Instructions.{sets, reads}
 use Rattle.code.specs.Words.{decode, opcode, first, second}
 use Rattle.code.specs.Tests.{every, each_at, is, below, total}
-use Rattle.code.specs.Rules.{builds, set_before, ready, opened, legal, ranged, allowed, v1, v2, v3, v4, v5, v6, v7, lowest, broken}
+use Rattle.code.specs.Rules.{builds, set_before, ready, opened, legal, ranged, allowed, v1, v2, v3, v4, v5, v6, v7, broken}
 use Rattle.code.specs.Table.{found}
 use Rattle.code.specs.WellFormed.{Kept, WellFormed, word_at}
+use Rattle.code.proofs.WordLaws.{never}
 use Rattle.code.proofs.RangeLaws.{all_ranged}
 
-never : {A : Type 0} → false ≡ true → A
-never e = let z : ◌≡◌ {A = ℕ} 0 1 = cc in absurd (omega arith)
+-- no rule is broken only if all are kept
+step : (rule : Rule) (kept : Bool) (next : Option Rule) → cond kept next (Some rule) ≡ None → (kept ≡ true) × (next ≡ None)
+step rule true next e = (refl, e)
+step rule false next e = cc
 
--- the lowest rule broken is 0 only if all are kept
-step : (v : ℕ) (b : Bool) (bs : List Bool) → 0 < v → lowest v (b ∷ bs) ≡ 0 → (b ≡ true) × (lowest (suc v) bs ≡ 0)
-step v true bs l e = (refl, e)
-step v false bs l e = absurd (omega arith)
-
-seven : (a b c d f g h : Bool) → lowest 1 (a ∷ b ∷ c ∷ d ∷ f ∷ g ∷ h ∷ []) ≡ 0
-    → (a ≡ true) × ((b ≡ true) × ((c ≡ true) × ((d ≡ true) × ((f ≡ true) × ((g ≡ true) × (h ≡ true))))))
-seven a b c d f g h e =
-    let p = step 1 a (b ∷ c ∷ d ∷ f ∷ g ∷ h ∷ []) (omega arith) e in
-    let q = step 2 b (c ∷ d ∷ f ∷ g ∷ h ∷ []) (omega arith) p.1 in
-    let r = step 3 c (d ∷ f ∷ g ∷ h ∷ []) (omega arith) q.1 in
-    let s = step 4 d (f ∷ g ∷ h ∷ []) (omega arith) r.1 in
-    let t = step 5 f (g ∷ h ∷ []) (omega arith) s.1 in
-    let u = step 6 g (h ∷ []) (omega arith) t.1 in
-    let v = step 7 h [] (omega arith) u.1 in
-    (p.0, (q.0, (r.0, (s.0, (t.0, (u.0, v.0))))))
-
-pub kept : (arities : List ℕ) (predicate key : ℕ) (ws : List ℕ) → broken arities predicate key ws ≡ 0 → Kept arities predicate key ws
+pub kept : (arities : List ℕ) (predicate key : ℕ) (ws : List ℕ) → broken arities predicate key ws ≡ None → Kept arities predicate key ws
 kept ar p k ws e =
     let code = map decode ws in
-    let a = seven (v1 ar ws) (v2 code) (v3 code) (v4 ar code) (v5 (opened ws) ar code) (v6 (get_or ar p 0) ar code) (v7 k code) e in
-    record { v1_kept = a.0; v2_kept = a.1.0; v3_kept = a.1.1.0; v4_kept = a.1.1.1.0; v5_kept = a.1.1.1.1.0; v6_kept = a.1.1.1.1.1.0; v7_kept = a.1.1.1.1.1.1 }
+    let a = step Ranges (v1 ar ws) _ e in
+    let b = step Frame (v2 code) _ a.1 in
+    let c = step Order (v3 code) _ b.1 in
+    let d = step Structures (v4 ar code) _ c.1 in
+    let f = step Slots (v5 (opened ws) ar code) _ d.1 in
+    let g = step Arguments (v6 (get_or ar p 0) ar code) _ f.1 in
+    let h = step Key (v7 k code) _ g.1 in
+    record { v1_kept = a.0; v2_kept = b.0; v3_kept = c.0; v4_kept = d.0; v5_kept = f.0; v6_kept = g.0; v7_kept = h.0 }
 
 -- by place
 every_at : (p : Instruction → Bool) (ws : List ℕ) (i : ℕ) → every p (map decode ws) ≡ true → i < length ws → p (word_at ws i) ≡ true
@@ -47,7 +41,7 @@ each_at_word p [] i h l = absurd (omega arith)
 each_at_word p (w ∷ ws) zero h l = (and_parts (p 0 (decode w)) (each_at (λ j. p (suc j)) (map decode ws)) h).0
 each_at_word p (w ∷ ws) (suc i) h l = each_at_word (λ j. p (suc j)) ws i (and_parts (p 0 (decode w)) (each_at (λ j. p (suc j)) (map decode ws)) h).1 (omega arith)
 
-is_some : (o : Option ℕ) (y : ℕ) → is o y ≡ true → o ≡ Some y
+pub is_some : (o : Option ℕ) (y : ℕ) → is o y ≡ true → o ≡ Some y
 is_some None y e = never e
 is_some (Some z) y e = ap Some (eqb-true z y e)
 

@@ -7,6 +7,8 @@ use Rattle.code.specs.declared.instructions.Operand.{Operand}
 use Rattle.code.specs.declared.instructions.Operand.TheVariants.{Fresh, Known, Constant as Fixed}
 use Rattle.code.specs.declared.instructions.Instruction.{Instruction}
 use Rattle.code.specs.declared.instructions.Instruction.TheVariants.{Allocate, Get, GetStructure, Unify, Put, PutStructure, Set, Call, Proceed}
+use Rattle.code.specs.declared.rules.Rule.{Rule}
+use Rattle.code.specs.declared.rules.Rule.TheVariants.{Ranges, Frame, Order, Structures, Slots as KeptSlots, Arguments, Key}
 use Rattle.code.specs.Limits.{slot_limit, word_limit, call_limit, argument_limit}
 use Rattle.code.specs.Table.{found}
 use Rattle.code.specs.Tests.{every, some, total, run, along, each_at, below, chosen, is}
@@ -128,6 +130,10 @@ structure_at y (Set o) = None
 structure_at y (Call p) = None
 structure_at y Proceed = None
 
+-- the key of a symbol, if there is one
+abbrev pub keyed : Option ℕ → ℕ
+keyed o = chosen o (λ f. 1 + f) 0
+
 abbrev pub structure_on : ℕ → List Instruction → ℕ
 structure_on y [] = 0
 structure_on y (w ∷ ws) = chosen (structure_at y w) (λ f. 1 + f) (structure_on y ws)
@@ -156,12 +162,25 @@ key_of (w ∷ ws) = chosen (argument_one w) (λ o. key_by o ws) (key_of ws)
 abbrev pub v7 : ℕ → List Instruction → Bool
 v7 key code = key == key_of code
 
--- the lowest rule that a clause's code breaks, or 0
-abbrev pub lowest : ℕ → List Bool → ℕ
-lowest v [] = 0
-lowest v (kept ∷ ks) = cond kept (lowest (suc v) ks) v
+-- the rules, numbered from 1 on
+abbrev pub rule_number : Rule → ℕ
+rule_number Ranges = 1
+rule_number Frame = 2
+rule_number Order = 3
+rule_number Structures = 4
+rule_number KeptSlots = 5
+rule_number Arguments = 6
+rule_number Key = 7
 
-abbrev pub broken : List ℕ → ℕ → ℕ → List ℕ → ℕ
+-- the first rule of those that are not kept
+abbrev pub lowest : List Rule → List Bool → Option Rule
+lowest [] ks = None
+lowest (r ∷ rs) [] = None
+lowest (r ∷ rs) (kept ∷ ks) = cond kept (lowest rs ks) (Some r)
+
+-- the lowest rule that a clause's code breaks
+abbrev pub broken : List ℕ → ℕ → ℕ → List ℕ → Option Rule
 broken arities predicate key ws =
     let code = map decode ws in
-    lowest 1 (v1 arities ws ∷ v2 code ∷ v3 code ∷ v4 arities code ∷ v5 (opened ws) arities code ∷ v6 (slice_index arities predicate) arities code ∷ v7 key code ∷ [])
+    lowest (Ranges ∷ Frame ∷ Order ∷ Structures ∷ KeptSlots ∷ Arguments ∷ Key ∷ [])
+    (v1 arities ws ∷ v2 code ∷ v3 code ∷ v4 arities code ∷ v5 (opened ws) arities code ∷ v6 (slice_index arities predicate) arities code ∷ v7 key code ∷ [])

@@ -1,94 +1,83 @@
 // Rule V6: each head argument is read once, and each argument of a call put once, and none beyond.
-ghost use Rattle.std.specs.Prelude.{◌≡◌, ◌≤◌, true, [], map, nat_le};
+ghost use Rattle.std.specs.Prelude.{◌≡◌, ◌≤◌, true, [], map, nat_le, unwrap_or};
 ghost use Rattle.code.specs.Limits.{argument_limit};
 ghost use Rattle.code.specs.Tests.{every};
 ghost use Rattle.code.specs.Instructions.{got, put};
 ghost use Rattle.code.specs.Words.{decode};
 ghost use Rattle.code.specs.Rules.{filled, calls, v6};
-ghost use Rattle.code.specs.Passes.{note_arg, wanted, full, call_next};
+ghost use Rattle.code.specs.Passes.{note_arg, full, call_next};
 ghost use Rattle.code.specs.Passes.{bump as bumped};
 
 use crate::instructions::Instruction;
+use crate::limits::ARGUMENT_LIMIT;
 use crate::structures::arity_at;
 use crate::words::decode as decoded;
+
+// A place for none, and one for each argument.
+const COUNT_LIMIT: usize = ARGUMENT_LIMIT + 1;
+
+// How often each argument was met.
+type Counts = [u8; COUNT_LIMIT];
 
 // How often an argument was met is counted up to two.
 fn bump(c: u8) -> u8
     ensures { result ≡ bumped c }
 {
-    if c < 2 {
-        return c + 1;
-    }
-    c
+    if c < 2 { c + 1 } else { c }
 }
 
-// The counts once the argument `a` is met; those of 0 do not matter.
-fn note(counts: [u8; 9], a: usize) -> [u8; 9]
-    requires { a ≤ argument_limit }
-    ensures { result ≡ note_arg counts a }
+// Counts the argument; what is counted of 0, or of none, does not matter.
+fn note(counts: &mut Counts, argument: Option<u8>)
+    requires { unwrap_or argument 0 ≤ argument_limit }
+    ensures { counts.new ≡ note_arg counts.old (unwrap_or argument 0) }
 {
-    let mut next = counts;
-    next[a] = bump(counts[a]);
-    next
+    let count = &mut counts[argument.unwrap_or(0) as usize];
+    *count = bump(*count);
 }
 
-// How often argument a + 1 of m should be met.
-fn wanted_at(m: usize, a: usize) -> u8
-    ensures { result ≡ wanted m a }
+// Whether the arguments 1 to m, and none beyond, were met once. By their numbers, from 1.
+fn is_full(counts: &Counts, m: usize) -> bool
+    ensures { result ≡ full m counts.now }
 {
-    if a < m {
-        return 1;
-    }
-    0
-}
-
-// Whether the arguments 1 to m, and none beyond, were met once.
-fn is_full(counts: [u8; 9], m: usize) -> bool
-    ensures { result ≡ full m counts }
-{
-    for a in 0..8 {
-        if counts[a + 1] != wanted_at(m, a) {
-            return false;
-        }
-    }
-    true
+    m <= ARGUMENT_LIMIT && (0..ARGUMENT_LIMIT).all(|a| counts[a + 1] == u8::from(a < m))
 }
 
 // The arguments 1 to m, and none beyond, are each read once.
 fn reads_head(code: &[u32], m: usize) -> bool
-    requires low { m ≤ argument_limit }
-    requires small { every (λ w. nat_le (got w) argument_limit) (map decode code.now) ≡ true }
+    requires { every (λ w. nat_le (got w) argument_limit) (map decode code.now) ≡ true }
     ensures { result ≡ filled got m (map decode code.now) }
 {
-    let mut counts: [u8; 9] = [0; 9];
+    let mut counts = [0; COUNT_LIMIT];
     for w in code {
-        let next = note(counts, decoded(*w).got() as usize);
-        counts = next;
+        note(&mut counts, decoded(*w).got());
     }
-    is_full(counts, m)
+    is_full(&counts, m)
 }
 
 // The counts after an instruction: a call wants its arguments met, and begins anew.
-fn count_word(counts: [u8; 9], word: Instruction, arities: &[u8]) -> Option<[u8; 9]>
+fn count_word(mut counts: Counts, word: Instruction, arities: &[u8]) -> Option<Counts>
     requires { put word ≤ argument_limit }
     ensures { result ≡ call_next arities.now counts word }
 {
-    let Some(p) = word.called() else {
-        return Some(note(counts, word.put() as usize));
-    };
-    if !is_full(counts, arity_at(arities, p as usize)) {
-        return None;
+    match word.called() {
+        Some(p) if is_full(&counts, arity_at(arities, p as usize) as usize) => {
+            Some([0; COUNT_LIMIT])
+        }
+        Some(_) => None,
+        None => {
+            note(&mut counts, word.put());
+            Some(counts)
+        }
     }
-    Some([0; 9])
 }
 
 // Since the previous call, each argument of a call is put once, and none beyond.
 fn fills_calls(code: &[u32], arities: &[u8]) -> bool
-    requires low { every (λ a. nat_le a argument_limit) arities.now ≡ true }
-    requires small { every (λ w. nat_le (put w) argument_limit) (map decode code.now) ≡ true }
+    requires { every (λ w. nat_le (put w) argument_limit) (map decode code.now) ≡ true }
     ensures { result ≡ calls arities.now [] (map decode code.now) }
 {
-    let mut counts: [u8; 9] = [0; 9];
+    // A loop: what try_fold gives of an array is not seen through its closure.
+    let mut counts = [0; COUNT_LIMIT];
     for w in code {
         let Some(next) = count_word(counts, decoded(*w), arities) else {
             return false;
@@ -100,14 +89,9 @@ fn fills_calls(code: &[u32], arities: &[u8]) -> bool
 
 // The head has m arguments.
 pub(crate) fn keeps_arguments(code: &[u32], arities: &[u8], m: usize) -> bool
-    requires low { m ≤ argument_limit }
-    requires arities { every (λ a. nat_le a argument_limit) arities.now ≡ true }
     requires got { every (λ w. nat_le (got w) argument_limit) (map decode code.now) ≡ true }
     requires put { every (λ w. nat_le (put w) argument_limit) (map decode code.now) ≡ true }
     ensures { result ≡ v6 m arities.now (map decode code.now) }
 {
-    if !reads_head(code, m) {
-        return false;
-    }
-    fills_calls(code, arities)
+    reads_head(code, m) && fills_calls(code, arities)
 }

@@ -1,5 +1,5 @@
 // Instructions: what a code word says.
-ghost use Rattle.std.specs.Prelude.{◌≡◌, ◌≤◌};
+ghost use Rattle.std.specs.Prelude.{◌≡◌, ◌≤◌, ◌==◌, unwrap_or};
 ghost use Rattle.code.specs.Instructions.{form, number, within, fresh, known, sets, reads, got, put, called};
 
 // A slot that is filled, a slot that is used, or a constant's symbol.
@@ -82,15 +82,61 @@ impl Instruction {
         }
     }
 
-    // Whether the opcode is one from `low` to `high`.
-    pub(crate) fn within(self, low: usize, high: usize) -> bool
-        ensures { result ≡ within low high self }
+    pub(crate) fn is_allocate(self) -> bool
+        ensures { result ≡ (number self == 1) }
     {
-        let n = self.number();
-        if n < low {
-            return false;
-        }
-        n <= high
+        matches!(self, Instruction::Allocate(_))
+    }
+
+    // A get or unify instruction.
+    pub(crate) fn is_head(self) -> bool
+        ensures { result ≡ within 2 8 self }
+    {
+        matches!(
+            self,
+            Instruction::Get(..) | Instruction::GetStructure(..) | Instruction::Unify(_)
+        )
+    }
+
+    // A put or set instruction.
+    pub(crate) fn is_body(self) -> bool
+        ensures { result ≡ within 9 15 self }
+    {
+        matches!(
+            self,
+            Instruction::Put(..) | Instruction::PutStructure(..) | Instruction::Set(_)
+        )
+    }
+
+    pub(crate) fn is_unify(self) -> bool
+        ensures { result ≡ within 6 8 self }
+    {
+        matches!(self, Instruction::Unify(_))
+    }
+
+    pub(crate) fn is_set(self) -> bool
+        ensures { result ≡ within 13 15 self }
+    {
+        matches!(self, Instruction::Set(_))
+    }
+
+    pub(crate) fn is_call(self) -> bool
+        ensures { result ≡ within 16 16 self }
+    {
+        matches!(self, Instruction::Call(_))
+    }
+
+    pub(crate) fn is_proceed(self) -> bool
+        ensures { result ≡ (number self == 17) }
+    {
+        matches!(self, Instruction::Proceed)
+    }
+
+    // Neither allocate nor proceed.
+    pub(crate) fn is_inner(self) -> bool
+        ensures { result ≡ within 2 16 self }
+    {
+        !matches!(self, Instruction::Allocate(_) | Instruction::Proceed)
     }
 
     // The slot that is set.
@@ -98,11 +144,11 @@ impl Instruction {
         ensures { result ≡ sets self }
     {
         match self {
-            Instruction::Get(o, _) => o.fresh(),
-            Instruction::Unify(o) => o.fresh(),
-            Instruction::Put(o, _) => o.fresh(),
+            Instruction::Get(o, _)
+            | Instruction::Unify(o)
+            | Instruction::Put(o, _)
+            | Instruction::Set(o) => o.fresh(),
             Instruction::PutStructure(y, _) => Some(y),
-            Instruction::Set(o) => o.fresh(),
             _ => None,
         }
     }
@@ -112,32 +158,32 @@ impl Instruction {
         ensures { result ≡ reads self }
     {
         match self {
-            Instruction::Get(o, _) => o.known(),
+            Instruction::Get(o, _)
+            | Instruction::Unify(o)
+            | Instruction::Put(o, _)
+            | Instruction::Set(o) => o.known(),
             Instruction::GetStructure(y, _) => Some(y),
-            Instruction::Unify(o) => o.known(),
-            Instruction::Put(o, _) => o.known(),
-            Instruction::Set(o) => o.known(),
             _ => None,
         }
     }
 
-    // The argument that is read, or 0.
-    pub(crate) fn got(self) -> u8
-        ensures { result ≡ got self }
+    // The argument that is read.
+    pub(crate) fn got(self) -> Option<u8>
+        ensures { unwrap_or result 0 ≡ got self }
     {
         match self {
-            Instruction::Get(_, a) => a,
-            _ => 0,
+            Instruction::Get(_, a) => Some(a),
+            _ => None,
         }
     }
 
-    // The argument that is put, or 0.
-    pub(crate) fn put(self) -> u8
-        ensures { result ≡ put self }
+    // The argument that is put.
+    pub(crate) fn put(self) -> Option<u8>
+        ensures { unwrap_or result 0 ≡ put self }
     {
         match self {
-            Instruction::Put(_, a) => a,
-            _ => 0,
+            Instruction::Put(_, a) => Some(a),
+            _ => None,
         }
     }
 

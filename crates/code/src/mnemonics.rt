@@ -5,6 +5,7 @@ ghost use Rattle.code.specs.Mnemonics.{mnemonic};
 use crate::instructions::{Instruction, Operand};
 
 impl Instruction {
+    // A str and no Display: it is a name alone, and the contract says its bytes.
     pub fn mnemonic(self) -> &'static str
         ensures { result.now ≡ mnemonic self }
     {

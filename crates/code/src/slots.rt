@@ -1,5 +1,5 @@
 // Rule V5: each slot is set exactly once, and read only afterwards.
-ghost use Rattle.std.specs.Prelude.{◌≡◌, ◌<◌, ◌≤◌, true, not, map, length, ◌==◌, slice_index};
+ghost use Rattle.std.specs.Prelude.{◌≡◌, ◌<◌, ◌≤◌, true, map, is_some, slice_index_or};
 ghost use Rattle.code.specs.Tests.{every, below};
 ghost use Rattle.code.specs.Instructions.{sets};
 ghost use Rattle.code.specs.Words.{decode};
@@ -10,53 +10,38 @@ use crate::instructions::Instruction;
 use crate::structures::arity_at;
 use crate::words::decode as decoded;
 
-// `since` has for each slot 0, or the place from which on it may be read.
+// For each slot that was set, the place from which on it may be read.
+type Since = [Option<usize>; 256];
+
 // Whether the slot may be read at place i.
-fn can_read(since: &[usize], i: usize, slot: Option<u8>) -> bool
-    requires { length since.now ≡ 256 }
+fn can_read(since: &Since, i: usize, slot: Option<u8>) -> bool
     ensures { result ≡ can_read since.now i slot }
 {
-    let Some(y) = slot else {
-        return true;
-    };
-    if since[y as usize] == 0 {
-        return false;
-    }
-    since[y as usize] <= i
+    slot.is_none_or(|y| since[y as usize].is_some_and(|place| place <= i))
 }
 
 // Whether the slot was not set yet.
-fn can_set(since: &[usize], slot: Option<u8>) -> bool
-    requires { length since.now ≡ 256 }
+fn can_set(since: &Since, slot: Option<u8>) -> bool
     ensures { result ≡ can_set since.now slot }
 {
-    let Some(y) = slot else {
-        return true;
-    };
-    since[y as usize] == 0
+    slot.is_none_or(|y| since[y as usize].is_none())
 }
 
-// The slot may be read from `value` on.
-fn mark(since: &mut [usize], slot: Option<u8>, value: usize)
-    requires { length since.old ≡ 256 }
-    ensures { since.new ≡ marked since.old slot value }
+// The slot may be read from `place` on.
+fn mark(since: &mut Since, slot: Option<u8>, place: usize)
+    ensures { since.new ≡ marked since.old slot place }
 {
     if let Some(y) = slot {
-        since[y as usize] = value;
+        since[y as usize] = Some(place);
     }
 }
 
 // Whether each slot below `slots` was set.
-fn all_set(since: &[usize], slots: usize) -> bool
-    requires { slots ≤ length since.now }
-    ensures { result ≡ below slots (λ y. not (slice_index since.now y == 0)) }
+fn all_set(since: &Since, slots: usize) -> bool
+    requires { slots ≤ 256 }
+    ensures { result ≡ below slots (λ y. is_some (slice_index_or since.now y None)) }
 {
-    for y in 0..slots {
-        if since[y] == 0 {
-            return false;
-        }
-    }
-    true
+    since[..slots].iter().all(|place| place.is_some())
 }
 
 // How many set words follow the instruction, which sets its slot after them.
@@ -65,7 +50,7 @@ fn words_built(word: Instruction, arities: &[u8]) -> usize
     ensures small { result < 256 }
 {
     match word {
-        Instruction::PutStructure(_, f) => arity_at(arities, f as usize),
+        Instruction::PutStructure(_, f) => arity_at(arities, f as usize) as usize,
         _ => 0,
     }
 }
@@ -76,20 +61,13 @@ pub(crate) fn keeps_slots(code: &[u32], arities: &[u8], slots: usize) -> bool
     requires inside { every (λ w. inside slots (sets w)) (map decode code.now) ≡ true }
     ensures { result ≡ v5 slots arities.now (map decode code.now) }
 {
-    let mut since: [usize; 256] = [0; 256];
+    let mut since: Since = [None; 256];
     for (i, w) in code.iter().enumerate() {
         let word = decoded(*w);
-        if !can_read(&since[..], i, word.reads()) {
+        if !can_read(&since, i, word.reads()) || !can_set(&since, word.sets()) {
             return false;
         }
-        if !can_set(&since[..], word.sets()) {
-            return false;
-        }
-        mark(
-            &mut since[..],
-            word.sets(),
-            i + 1 + words_built(word, arities),
-        );
+        mark(&mut since, word.sets(), i + 1 + words_built(word, arities));
     }
-    all_set(&since[..], slots)
+    all_set(&since, slots)
 }

@@ -2,27 +2,25 @@
 ghost use Rattle.std.specs.Prelude.{◌≡◌, ◌<◌, map, slice_index};
 ghost use Rattle.code.specs.Words.{decode};
 ghost use Rattle.code.specs.Rules.{v4};
-ghost use Rattle.code.specs.Passes.{due_after, due_step};
+ghost use Rattle.code.specs.Passes.{nothing_due, due_after, due_step};
 
 use crate::instructions::Instruction;
 use crate::words::decode as decoded;
 
-// How many unify words and how many set words are due.
+// How many unify words and how many set words are due. Two counts and no enum: an enum with a count in each case has more than one state in which nothing is due.
 #[derive(Clone, Copy)]
 pub(crate) struct Due {
-    unify: usize,
-    set: usize,
+    unify: u8,
+    set: u8,
 }
 
-// The arity of a symbol; 0 where there is none of this number.
-pub(crate) fn arity_at(arities: &[u8], symbol: usize) -> usize
-    ensures value { result ≡ slice_index arities.now symbol }
-    ensures small { result < 256 }
+const NOTHING: Due = Due { unify: 0, set: 0 };
+
+// The arity of a symbol; 0 where there is none of this number. No Option: the rules ask it of any number.
+pub fn arity_at(arities: &[u8], symbol: usize) -> u8
+    ensures { result ≡ slice_index arities.now symbol }
 {
-    if symbol >= arities.len() {
-        return 0;
-    }
-    arities[symbol] as usize
+    arities.get(symbol).copied().unwrap_or(0)
 }
 
 // What is due after an instruction.
@@ -32,58 +30,46 @@ fn due_after(word: Instruction, arities: &[u8]) -> Due
     match word {
         Instruction::GetStructure(_, f) => Due {
             unify: arity_at(arities, f as usize),
-            set: 0,
+            ..NOTHING
         },
         Instruction::PutStructure(_, f) => Due {
-            unify: 0,
             set: arity_at(arities, f as usize),
+            ..NOTHING
         },
-        _ => Due { unify: 0, set: 0 },
+        _ => NOTHING,
     }
 }
 
 impl Due {
+    fn is_nothing(self) -> bool
+        ensures { result ≡ nothing_due self }
+    {
+        self.unify == 0 && self.set == 0
+    }
+
     // What is due after one more instruction, unless it is out of place.
     fn step(self, word: Instruction, arities: &[u8]) -> Option<Due>
         ensures { result ≡ due_step arities.now self word }
     {
-        if word.within(6, 8) {
-            if self.unify == 0 || self.set != 0 {
-                return None;
-            }
-            return Some(Due {
-                unify: self.unify - 1,
+        match (self.unify, self.set) {
+            (n @ 1.., 0) if word.is_unify() => Some(Due {
+                unify: n - 1,
                 set: 0,
-            });
-        }
-        if word.within(13, 15) {
-            if self.set == 0 || self.unify != 0 {
-                return None;
-            }
-            return Some(Due {
+            }),
+            (0, n @ 1..) if word.is_set() => Some(Due {
                 unify: 0,
-                set: self.set - 1,
-            });
+                set: n - 1,
+            }),
+            (0, 0) if !word.is_unify() && !word.is_set() => Some(due_after(word, arities)),
+            _ => None,
         }
-        if self.unify != 0 || self.set != 0 {
-            return None;
-        }
-        Some(due_after(word, arities))
     }
 }
 
 pub(crate) fn keeps_structures(code: &[u32], arities: &[u8]) -> bool
     ensures { result ≡ v4 arities.now (map decode code.now) }
 {
-    let mut state = Due { unify: 0, set: 0 };
-    for w in code {
-        let Some(next) = state.step(decoded(*w), arities) else {
-            return false;
-        };
-        state = next;
-    }
-    if state.unify != 0 {
-        return false;
-    }
-    state.set == 0
+    code.iter()
+        .try_fold(NOTHING, |state, w| state.step(decoded(*w), arities))
+        .is_some_and(|state| state.is_nothing())
 }

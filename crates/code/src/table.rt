@@ -3,8 +3,9 @@ ghost use Rattle.std.specs.Prelude.{◌≡◌};
 ghost use Rattle.code.specs.Table.{found};
 
 // What an operand is.
-#[derive(Clone, Copy)]
+#[derive(Clone, Copy, PartialEq, Eq)]
 pub enum Kind {
+    // no operand: a kind and no Option, so that each match over kinds has an arm for it
     Nothing,
     // how many slots there are
     Slots,
@@ -17,7 +18,7 @@ pub enum Kind {
 }
 
 // The operands of an opcode.
-#[derive(Clone, Copy)]
+#[derive(Clone, Copy, PartialEq, Eq)]
 pub struct Entry {
     pub first: Kind,
     pub second: Kind,
@@ -99,8 +100,8 @@ pub const OPCODES: [Entry; 17] = [
 pub fn look_up(opcode: usize) -> Option<Entry>
     ensures { result ≡ found opcode }
 {
-    if opcode < 1 || opcode > 17 {
-        return None;
+    match opcode {
+        1..=17 => Some(OPCODES[opcode - 1]),
+        _ => None,
     }
-    Some(OPCODES[opcode - 1])
 }

@@ -14,30 +14,36 @@ pub(crate) struct Operands {
     symbol: u16,
 }
 
-// The opcode of a word, and its operands.
+const NONE: Operands = Operands {
+    slot: 0,
+    argument: 0,
+    symbol: 0,
+};
+
+// The opcode of a word, and its operands, by shifts and masks: a word's fields are 8, 8 and 16 bits.
 pub fn opcode_of(word: u32) -> usize
     ensures { result ≡ opcode word }
 {
-    (word / 0x100_0000) as usize
+    (word >> 24) as usize
 }
 
 pub fn first_of(word: u32) -> u8
     ensures { result ≡ first word }
 {
-    (word / 0x1_0000 % 0x100) as u8
+    (word >> 16 & 0xff) as u8
 }
 
 pub fn second_of(word: u32) -> u16
     ensures { result ≡ second word }
 {
-    (word % 0x1_0000) as u16
+    (word & 0xffff) as u16
 }
 
 fn pack(opcode: usize, first: u8, second: u16) -> u32
     requires { opcode ≤ 17 }
     ensures { result ≡ packed opcode first second }
 {
-    opcode as u32 * 0x100_0000 + first as u32 * 0x1_0000 + second as u32
+    ((opcode as u32) << 24) + (u32::from(first) << 16) + u32::from(second)
 }
 
 fn operands_by(operand: Operand, argument: u8) -> Operands
@@ -45,20 +51,15 @@ fn operands_by(operand: Operand, argument: u8) -> Operands
     ensures narrow { Narrow result }
 {
     match operand {
-        Operand::Fresh(y) => Operands {
-            slot: y,
+        Operand::Fresh(slot) | Operand::Known(slot) => Operands {
+            slot,
             argument,
-            symbol: 0,
+            ..NONE
         },
-        Operand::Known(y) => Operands {
-            slot: y,
+        Operand::Constant(symbol) => Operands {
             argument,
-            symbol: 0,
-        },
-        Operand::Constant(c) => Operands {
-            slot: 0,
-            argument,
-            symbol: c,
+            symbol,
+            ..NONE
         },
     }
 }
@@ -68,35 +69,18 @@ fn operands_of(instruction: Instruction) -> Operands
     ensures narrow { Narrow result }
 {
     match instruction {
-        Instruction::Allocate(n) => Operands {
-            slot: n,
-            argument: 0,
-            symbol: 0,
-        },
-        Instruction::Get(o, a) => operands_by(o, a),
-        Instruction::GetStructure(y, f) => Operands {
-            slot: y,
-            argument: 0,
-            symbol: f,
-        },
-        Instruction::Unify(o) => operands_by(o, 0),
-        Instruction::Put(o, a) => operands_by(o, a),
-        Instruction::PutStructure(y, f) => Operands {
-            slot: y,
-            argument: 0,
-            symbol: f,
-        },
-        Instruction::Set(o) => operands_by(o, 0),
-        Instruction::Call(p) => Operands {
-            slot: 0,
-            argument: 0,
-            symbol: p,
-        },
-        Instruction::Proceed => Operands {
-            slot: 0,
-            argument: 0,
-            symbol: 0,
-        },
+        Instruction::Allocate(slot) => Operands { slot, ..NONE },
+        Instruction::Get(o, a) | Instruction::Put(o, a) => operands_by(o, a),
+        Instruction::Unify(o) | Instruction::Set(o) => operands_by(o, 0),
+        Instruction::GetStructure(slot, symbol) | Instruction::PutStructure(slot, symbol) => {
+            Operands {
+                slot,
+                symbol,
+                ..NONE
+            }
+        }
+        Instruction::Call(symbol) => Operands { symbol, ..NONE },
+        Instruction::Proceed => NONE,
     }
 }
 
@@ -128,7 +112,7 @@ fn argument_by(kind: Kind, first: u8, second: u16) -> u8
 {
     match kind {
         Kind::Argument => first,
-        _ => (second % 256) as u8,
+        _ => (second & 0xff) as u8,
     }
 }
 
@@ -157,7 +141,7 @@ fn build(opcode: usize, o: Operands) -> Instruction
     }
 }
 
-// The word of an instruction.
+// The word of an instruction. No From: its law would not say that `decode` is the way back.
 pub fn encode(instruction: Instruction) -> u32
     ensures value { result ≡ encoded instruction }
     ensures back { decoded result ≡ instruction }
@@ -172,7 +156,7 @@ pub fn encode(instruction: Instruction) -> u32
     )
 }
 
-// The instruction that a word is; one with no opcode is read as proceed.
+// The instruction that a word is; one with no opcode is read as proceed. No TryFrom: it could fail where this cannot, and the rules speak of all words.
 pub fn decode(word: u32) -> Instruction
     ensures value { result ≡ decoded word }
     ensures back { is_instruction word ≡ true → encoded result ≡ word }

@@ -7,8 +7,8 @@ use Rattle.code.specs.declared.instructions.Instruction.TheVariants.{Allocate, G
 use Rattle.symbol_table.specs.Symbols.{Signature, arity_at}
 use Rattle.compiler.specs.Rows.{row}
 use Rattle.compiler.specs.Scripts.{Phase, start, top, inside, between, goal, over, Script, stay, next, allocates, gets, takes, turns, begins, builds, calls, ends}
-use Rattle.compiler.specs.declared.rows.Role.{Role}
-use Rattle.compiler.specs.declared.rows.Role.TheVariants.{Gets, Unifies, Puts, Sets}
+use Rattle.compiler.specs.Rows.{Role}
+use Rattle.compiler.specs.Rows.{Gets, Unifies, Puts, Sets}
 use Rattle.code.specs.Instructions.{got, put}
 use Rattle.code.specs.Tests.{every, total, below}
 use Rattle.code.specs.Rules.{filled, v6}

@@ -1,6 +1,6 @@
 -- A line's clause, as it has been flattened.
-use Rattle.std.proofs.Common.{◌≡◌, ℕ, zero, suc, ◌+◌, ◌-◌, ◌<◌, ◌≤◌, true, ◌&&◌, ◌||◌, eqb, leb, List, [], ◌∷◌, ◌++◌, length, get_or, take, drop, Ok, sym, refl, ap, ◌∙◌, subst, arith, length-take-le, drop_at}
-use Rattle.std.proofs.lemmas.List.{drop-take}
+use Rattle.std.proofs.Common.{◌≡◌, ℕ, zero, suc, ◌+◌, ◌-◌, ◌<◌, ◌≤◌, true, ◌&&◌, ◌||◌, eqb, leb, List, [], ◌∷◌, length, get_or, take, drop, Ok, sym, refl, ap, ◌∙◌, subst, arith}
+use Rattle.std.proofs.lemmas.List.{take_all}
 use Rattle.std.proofs.lemmas.Bool.{and_parts, leb-true}
 use Rattle.horn.specs.Terms.{Name, Term, var, node, nil, cons, count}
 use Rattle.horn.specs.Clauses.{Clause, Callables, Written, blanks, apart, aparts}
@@ -92,16 +92,9 @@ pub predicates_long : (sig : Signature) (ts : Written) (ws : List Word) → Call
 predicates_long sig ts ws h e = ap (λ l. length (predicates sig 0 l)) e ∙ ap length (goals_predicates sig ts h) ∙ count_goals sig ts
 
 -- the first and the others
-pub parts_of_lem : (xs ps : List ℕ) (n : ℕ) → take n xs ≡ ps → 1 ≤ n → n ≤ length xs → get_or xs 0 0 ∷ take (n - 1) (drop 1 xs) ≡ ps
-parts_of_lem [] ps n e some le = absurd (omega arith)
-parts_of_lem (x ∷ xs) ps zero e some le = absurd (omega arith)
-parts_of_lem (x ∷ xs) ps (suc n) e some le = let z : suc n - 1 ≡ n = omega arith in ap (λ k. x ∷ take k xs) z ∙ e
-
--- the words from a place on
-pub cut : (xs ys code : List ℕ) (at end : ℕ) → take end xs ≡ take at ys ++ code → at ≤ length ys → at ≤ end → take (end - at) (drop at xs) ≡ code
-cut xs ys code at end e le up =
-    let z : at + (end - at) ≡ end = omega arith in
-    sym (drop-take at (end - at) xs) ∙ ap (λ k. drop at (take k xs)) z ∙ ap (drop at) e ∙ drop_at (take at ys) code at (length-take-le at ys le)
+pub parts_of_lem : (xs ps : List ℕ) → xs ≡ ps → 1 ≤ length xs → get_or xs 0 0 ∷ take (length xs - 1) (drop 1 xs) ≡ ps
+parts_of_lem [] ps e some = absurd (omega arith)
+parts_of_lem (x ∷ xs) ps e some = ap (λ l. x ∷ l) (take_all (suc (length xs) - 1) xs (omega arith)) ∙ e
 
 whole_list : (ps : List ℕ) → 1 ≤ length ps → get_or ps 0 0 ∷ drop 1 ps ≡ ps
 whole_list [] h = absurd (omega arith)

@@ -1,6 +1,7 @@
 -- Words one after another.
 use Rattle.std.proofs.Common.{◌≡◌, ℕ, suc, ◌+◌, ◌<◌, Bool, cond, List, [], ◌∷◌, ◌++◌, map, length, sym, refl, ap, ◌∙◌, subst, ap₂, append_assoc, append-nil, arith, length-append, eq-eqb, ne_eqb}
 use mathlib.Core.List.{map-append}
+use Rattle.std.proofs.lemmas.List.{length-map}
 use Rattle.horn.specs.Terms.{Term, Terms, var, node, nil, cons, join}
 use Rattle.symbol_table.specs.Symbols.{Signature, name_at, arity_at, symbols_of}
 use Rattle.compiler.specs.Terms.{hop}
@@ -16,8 +17,8 @@ use Rattle.compiler.specs.Emits.{Emits, Added, Names, Named, none, more}
 use Rattle.code.specs.declared.instructions.Operand.{Operand}
 use Rattle.code.specs.declared.instructions.Instruction.{Instruction}
 use Rattle.code.specs.declared.instructions.Instruction.TheVariants.{Allocate, GetStructure, PutStructure, Call, Proceed}
-use Rattle.compiler.specs.declared.rows.Role.{Role}
-use Rattle.compiler.specs.declared.rows.Role.TheVariants.{Gets, Unifies, Puts, Sets}
+use Rattle.compiler.specs.Rows.{Role}
+use Rattle.compiler.specs.Rows.{Gets, Unifies, Puts, Sets}
 
 pub join_assoc : (a b c : Terms ℕ) → join (join a b) c ≡ join a (join b c)
 join_assoc nil b c = refl
@@ -260,3 +261,7 @@ added_from on p = record {
   more = p.more;
   script = next on p.script;
 }
+
+-- so many words more
+pub added_long : {sig : Signature} {a b : Phase} {out out' : List ℕ} {n : ℕ} {X : Terming → Terming → Type 0} {G : Terming → Terms ℕ} {s s' : List Bool} → Added sig a b out out' n X G s s' → length out' ≡ length out + n
+added_long {out = out} p = ap length p.longer ∙ length-append out (map encode p.words) ∙ ap (λ k. length out + k) (length-map p.words encode ∙ p.size)

@@ -1,8 +1,7 @@
 -- Slots as they are filled.
-use Rattle.std.proofs.Common.{◌≡◌, ℕ, zero, suc, ◌+◌, ◌<◌, Bool, true, false, ◌≢◌, List, [], ◌∷◌, ◌++◌, map, length, get_or, set, sym, refl, ap, ◌∙◌, subst, ap₂, append_assoc, append-nil, add-one, arith, length-set, get_or-set_other, get_or-set_same}
+use Rattle.std.proofs.Common.{◌≡◌, ℕ, zero, suc, ◌+◌, Bool, true, false, ◌≢◌, List, [], ◌∷◌, ◌++◌, map, length, set, sym, refl, ap, ◌∙◌, subst, ap₂, append_assoc, append-nil, add-one, arith, length-set, get_or-set_other}
 use mathlib.Core.List.{map-append}
 use native.Mathlib.Decide.{ℕ_discrete}
-use Rattle.std.proofs.lemmas.List.{get_or_default}
 use Rattle.symbol_table.specs.Symbols.{Signature}
 use Rattle.compiler.specs.Terms.{hop}
 use Rattle.code.specs.Meaning.{Terming}
@@ -17,17 +16,11 @@ use Rattle.compiler.specs.declared.items.Item.{Item}
 use Rattle.compiler.specs.declared.items.Item.TheVariants.{Atom, Structure, Variable}
 use Rattle.code.specs.declared.instructions.Operand.{Operand}
 use Rattle.code.specs.declared.instructions.Operand.TheVariants.{Fresh, Known, Constant}
-use Rattle.compiler.specs.declared.rows.Role.{Role}
+use Rattle.compiler.specs.Rows.{Role}
 use Rattle.code.specs.declared.instructions.Instruction.{Instruction}
 
 pub empty_other : (s : List Bool) (y z : ℕ) → (y ≡ z → ⊥) → Empty s z → Empty (set s y true) z
 empty_other s y z ne e = let other : z ≢ y = λ q. ne (sym q) in get_or-set_other s y z true true other ∙ e
-
-pub picked_known : (s : List Bool) (y : ℕ) → get_or s y false ≡ true → Picked y (Known y) s s
-picked_known s y h = record { names = λ sig ρ. refl; fair = λ sig. tt; fits = h; after = refl; filled = h; keeps = λ z ne e. e }
-
-pub picked_fresh : (s : List Bool) (y : ℕ) → y < length s → get_or s y false ≡ false → Picked y (Fresh y) s (set s y true)
-picked_fresh s y lt h = record { names = λ sig ρ. refl; fair = λ sig. tt; fits = get_or_default s y true false lt ∙ h; after = refl; filled = get_or-set_same s y true false lt; keeps = λ z ne e. empty_other s y z ne e }
 
 -- what is filled stays filled
 pub filled_more : (s : List Bool) (y z : ℕ) → Filled s z → Filled (set s y true) z
@@ -60,10 +53,6 @@ pub fill_long : (o : Operand) (s : List Bool) → length (fill o s) ≡ length s
 fill_long (Fresh y) s = length-set s y true
 fill_long (Known y) s = refl
 fill_long (Constant c) s = refl
-
-pub fills_long : {os : List Operand} {s s' : List Bool} → Fills os s s' → length s' ≡ length s
-fills_long still = refl
-fills_long (then {o = o} {s = s} f r) = fills_long r ∙ fill_long o s
 
 pub fills_push : {os : List Operand} {s s' : List Bool} (o : Operand) → Fills os s s' → Fits o s' → Fills (os ++ o ∷ []) s (fill o s')
 fills_push o still f = then f still

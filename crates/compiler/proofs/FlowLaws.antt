@@ -18,8 +18,8 @@ use Rattle.compiler.specs.declared.items.Item.TheVariants.{Atom, Structure, Vari
 use Rattle.code.specs.declared.instructions.Operand.{Operand}
 use Rattle.code.specs.declared.instructions.Instruction.{Instruction}
 use Rattle.code.specs.declared.instructions.Instruction.TheVariants.{GetStructure, PutStructure}
-use Rattle.compiler.specs.declared.rows.Role.{Role}
-use Rattle.compiler.specs.declared.rows.Role.TheVariants.{Gets, Unifies, Puts, Sets}
+use Rattle.compiler.specs.Rows.{Role}
+use Rattle.compiler.specs.Rows.{Gets, Unifies, Puts, Sets}
 
 -- a row of words, when no slot is due
 pub row_flows : {os : List Operand} {s s' : List Bool} (sig : Signature) (r : Role) (a : ℕ) (rest : List Instruction) → Fills os s s' → Orderly sig 0 0 rest s' → Orderly sig 0 0 (row r a os ++ rest) s

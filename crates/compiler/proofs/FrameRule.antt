@@ -8,8 +8,8 @@ use Rattle.code.specs.declared.instructions.Instruction.TheVariants.{Get, GetStr
 use Rattle.symbol_table.specs.Symbols.{Signature}
 use Rattle.compiler.specs.Rows.{row}
 use Rattle.compiler.specs.Scripts.{Phase, start, top, inside, between, goal, over, Script, stay, next, allocates, gets, takes, turns, begins, builds, calls, ends}
-use Rattle.compiler.specs.declared.rows.Role.{Role}
-use Rattle.compiler.specs.declared.rows.Role.TheVariants.{Gets, Unifies, Puts, Sets}
+use Rattle.compiler.specs.Rows.{Role}
+use Rattle.compiler.specs.Rows.{Gets, Unifies, Puts, Sets}
 use Rattle.code.specs.Instructions.{number, within}
 use Rattle.code.specs.Rules.{closes}
 

@@ -5,7 +5,6 @@ pub mod FillLaws
 pub mod FlowLaws
 pub mod TableLaws
 pub mod StepLaws
-pub mod OutputLaws
 pub mod FrameRule
 pub mod OrderRule
 pub mod ArgumentRule

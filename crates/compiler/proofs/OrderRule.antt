@@ -1,5 +1,5 @@
 -- Rules V3 and V4 of scripts.
-use Rattle.std.proofs.Common.{◌≡◌, ℕ, suc, ◌-◌, Bool, true, false, cond, not, ◌||◌, eqb, List, [], ◌∷◌, ◌++◌, length, get_or, Some, None, Option, sym, refl, ap, ◌∙◌, subst, append_assoc, append-nil, arith}
+use Rattle.std.proofs.Common.{◌≡◌, ℕ, suc, ◌-◌, Bool, true, cond, not, ◌||◌, eqb, List, [], ◌∷◌, ◌++◌, length, get_or, Some, None, Option, sym, refl, ap, ◌∙◌, subst, append_assoc, append-nil, arith}
 use Rattle.std.proofs.lemmas.Bool.{ne_eqb}
 use Rattle.code.specs.declared.instructions.Operand.{Operand}
 use Rattle.code.specs.declared.instructions.Operand.TheVariants.{Fresh, Known, Constant}
@@ -8,14 +8,14 @@ use Rattle.code.specs.declared.instructions.Instruction.TheVariants.{Get, Unify,
 use Rattle.symbol_table.specs.Symbols.{Signature, arity_at}
 use Rattle.compiler.specs.Rows.{row}
 use Rattle.compiler.specs.Scripts.{Phase, start, top, inside, between, goal, over, Script, stay, next, allocates, gets, takes, turns, begins, builds, calls, ends}
-use Rattle.compiler.specs.declared.rows.Role.TheVariants.{Gets, Unifies, Puts, Sets}
+use Rattle.compiler.specs.Rows.{Gets, Unifies, Puts, Sets}
 use Rattle.code.specs.Rules.{v3, v4}
-use Rattle.code.specs.Passes.{onward, walk, order, order_step, due, due_step}
+use Rattle.code.specs.Passes.{onward, walk, Place, head, owed, after_call, order_step, due, due_step}
 use Rattle.code.proofs.OrderLaws.{done as orderly_done, order_is}
 use Rattle.code.proofs.DueLaws.{done as due_done, dues_are}
 
-abbrev passes : Bool → Bool → List Instruction → Bool
-passes b o ws = walk order_step orderly_done (order b o) ws
+abbrev passes : Place → List Instruction → Bool
+passes s ws = walk order_step orderly_done s ws
 
 -- one instruction more
 pub onward_by : {S : Type 0} (o : Option S) (t : S) (k : S → Bool) → o ≡ Some t → k t ≡ true → onward o k ≡ true
@@ -23,48 +23,48 @@ onward_by o t k e h = ap (λ x. onward x k) e ∙ h
 
 -- V3
 abbrev Ordered : Phase → List Instruction → Type 0
-Ordered (start n) ws = passes false false ws ≡ true
-Ordered (top n) ws = passes false false ws ≡ true
-Ordered inside ws = passes false false ws ≡ true
-Ordered between ws = (b : Bool) → passes b false ws ≡ true
-Ordered goal ws = (b o : Bool) → passes b o ws ≡ true
-Ordered over ws = (b : Bool) → passes b false ws ≡ true
+Ordered (start n) ws = passes head ws ≡ true
+Ordered (top n) ws = passes head ws ≡ true
+Ordered inside ws = passes head ws ≡ true
+Ordered between ws = (s : Place) → orderly_done s ≡ true → passes s ws ≡ true
+Ordered goal ws = (s : Place) → passes s ws ≡ true
+Ordered over ws = (s : Place) → orderly_done s ≡ true → passes s ws ≡ true
 
-order_get : (o : Operand) (a : ℕ) → order_step (order false false) (Get o a) ≡ Some (order false false)
+order_get : (o : Operand) (a : ℕ) → order_step head (Get o a) ≡ Some head
 order_get (Fresh y) a = refl
 order_get (Known y) a = refl
 order_get (Constant c) a = refl
 
-order_unify : (o : Operand) → order_step (order false false) (Unify o) ≡ Some (order false false)
+order_unify : (o : Operand) → order_step head (Unify o) ≡ Some head
 order_unify (Fresh y) = refl
 order_unify (Known y) = refl
 order_unify (Constant c) = refl
 
-order_put : (b c : Bool) (o : Operand) (a : ℕ) → order_step (order b c) (Put o a) ≡ Some (order true true)
-order_put b c (Fresh y) a = refl
-order_put b c (Known y) a = refl
-order_put b c (Constant x) a = refl
+order_put : (s : Place) (o : Operand) (a : ℕ) → order_step s (Put o a) ≡ Some owed
+order_put s (Fresh y) a = refl
+order_put s (Known y) a = refl
+order_put s (Constant x) a = refl
 
-order_set : (b c : Bool) (o : Operand) → order_step (order b c) (Set o) ≡ Some (order true true)
-order_set b c (Fresh y) = refl
-order_set b c (Known y) = refl
-order_set b c (Constant x) = refl
+order_set : (s : Place) (o : Operand) → order_step s (Set o) ≡ Some owed
+order_set s (Fresh y) = refl
+order_set s (Known y) = refl
+order_set s (Constant x) = refl
 
-order_gets : (a : ℕ) (os : List Operand) (rest : List Instruction) → passes false false rest ≡ true → passes false false (row Gets a os ++ rest) ≡ true
+order_gets : (a : ℕ) (os : List Operand) (rest : List Instruction) → passes head rest ≡ true → passes head (row Gets a os ++ rest) ≡ true
 order_gets a [] rest h = h
 order_gets a (o ∷ os) rest h = onward_by _ _ (λ t. walk order_step orderly_done t (row Gets (suc a) os ++ rest)) (order_get o a) (order_gets (suc a) os rest h)
 
-order_unifies : (a : ℕ) (os : List Operand) (rest : List Instruction) → passes false false rest ≡ true → passes false false (row Unifies a os ++ rest) ≡ true
+order_unifies : (a : ℕ) (os : List Operand) (rest : List Instruction) → passes head rest ≡ true → passes head (row Unifies a os ++ rest) ≡ true
 order_unifies a [] rest h = h
 order_unifies a (o ∷ os) rest h = onward_by _ _ (λ t. walk order_step orderly_done t (row Unifies (suc a) os ++ rest)) (order_unify o) (order_unifies (suc a) os rest h)
 
 order_puts : (a : ℕ) (os : List Operand) (rest : List Instruction) → Ordered goal rest → Ordered goal (row Puts a os ++ rest)
 order_puts a [] rest h = h
-order_puts a (x ∷ os) rest h = λ b o. onward_by _ _ (λ t. walk order_step orderly_done t (row Puts (suc a) os ++ rest)) (order_put b o x a) (order_puts (suc a) os rest h true true)
+order_puts a (x ∷ os) rest h = λ s. onward_by _ _ (λ t. walk order_step orderly_done t (row Puts (suc a) os ++ rest)) (order_put s x a) (order_puts (suc a) os rest h owed)
 
 order_sets : (a : ℕ) (os : List Operand) (rest : List Instruction) → Ordered goal rest → Ordered goal (row Sets a os ++ rest)
 order_sets a [] rest h = h
-order_sets a (x ∷ os) rest h = λ b o. onward_by _ _ (λ t. walk order_step orderly_done t (row Sets (suc a) os ++ rest)) (order_set b o x) (order_sets (suc a) os rest h true true)
+order_sets a (x ∷ os) rest h = λ s. onward_by _ _ (λ t. walk order_step orderly_done t (row Sets (suc a) os ++ rest)) (order_set s x) (order_sets (suc a) os rest h owed)
 
 ordered_on : {sig : Signature} {a b : Phase} {ws : List Instruction} → Script sig a b ws → (rest : List Instruction) → Ordered b rest → Ordered a (ws ++ rest)
 ordered_on stay rest h = h
@@ -72,14 +72,14 @@ ordered_on {a = a} (next {u = u} {v = v} p q) rest h = subst (Ordered a) (sym (a
 ordered_on allocates rest h = h
 ordered_on (gets os e) rest h = order_gets 1 os rest h
 ordered_on (takes os e) rest h = order_unifies 1 os rest h
-ordered_on turns rest h = h false
-ordered_on begins rest h = λ b. h b false
-ordered_on (builds os e) rest h = λ b o. order_sets 1 os rest h true true
-ordered_on (calls p os e) rest h = subst (Ordered goal) (sym (append_assoc (row Puts 1 os) (Call p ∷ []) rest)) (order_puts 1 os (Call p ∷ rest) (λ b o. h true))
+ordered_on turns rest h = h head refl
+ordered_on begins rest h = λ s e. h s
+ordered_on (builds os e) rest h = λ s. order_sets 1 os rest h owed
+ordered_on (calls p os e) rest h = subst (Ordered goal) (sym (append_assoc (row Puts 1 os) (Call p ∷ []) rest)) (order_puts 1 os (Call p ∷ rest) (λ s. h after_call refl))
 ordered_on ends rest h = h
 
 pub ordered : {sig : Signature} {n : ℕ} {ws : List Instruction} → Script sig (start n) over ws → v3 ws ≡ true
-ordered {ws = ws} p = sym (order_is ws) ∙ ap (passes false false) (sym (append-nil ws)) ∙ ordered_on p [] (λ b. refl)
+ordered {ws = ws} p = sym (order_is ws) ∙ ap (passes head) (sym (append-nil ws)) ∙ ordered_on p [] (λ s e. e)
 
 -- V4
 module _ (sig : Signature) (ar : List ℕ) (same : (f : ℕ) → get_or ar f 0 ≡ arity_at sig f) where

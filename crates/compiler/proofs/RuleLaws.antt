@@ -1,9 +1,10 @@
 -- The code of a clause keeps the rules.
-use Rattle.std.proofs.Common.{◌≡◌, ℕ, zero, suc, ◌+◌, ◌<◌, ◌≤◌, Bool, true, false, cond, ◌&&◌, eqb, ltb, leb, List, [], ◌∷◌, map, length, get_or, take, replicate, sym, refl, ap, ◌∙◌, subst, ap₂, arith}
+use Rattle.std.proofs.Common.{◌≡◌, ℕ, zero, suc, ◌+◌, ◌<◌, ◌≤◌, Bool, true, false, cond, ◌&&◌, eqb, ltb, leb, List, [], ◌∷◌, map, length, get_or, replicate, sym, refl, ap, ◌∙◌, subst, ap₂, arith}
 use lib.ListN.{length-replicate}
 use Rattle.code.specs.declared.instructions.Operand.TheVariants.{Fresh, Known, Constant}
 use Rattle.code.specs.declared.instructions.Instruction.{Instruction}
 use Rattle.code.specs.declared.instructions.Instruction.TheVariants.{Allocate, Get, GetStructure, Unify, Put, PutStructure, Set, Call, Proceed}
+use Rattle.std.proofs.lemmas.List.{length-map}
 use Rattle.std.proofs.lemmas.Bool.{eq-eqb, le-leb, lt-ltb, and_from}
 use Rattle.code.specs.Table.{found}
 use Rattle.code.specs.Words.{first, second, encode, decode, first_of, second_of}
@@ -19,7 +20,6 @@ use Rattle.code.proofs.SlotLaws.{slots_are}
 use Rattle.symbol_table.specs.Symbols.{Signature, arity_at, arities_of}
 use Rattle.compiler.specs.Lawful.{Lawful, Lawfuls}
 use Rattle.compiler.specs.Reading.{weight, Carries}
-use Rattle.compiler.specs.Output.{Onto}
 use Rattle.compiler.specs.Written.{Wrote}
 use Rattle.compiler.specs.Scripts.{start}
 use Rattle.compiler.specs.declared.items.Item.{Item}
@@ -29,14 +29,10 @@ use Rattle.compiler.proofs.OrderRule.{ordered, counted}
 use Rattle.compiler.proofs.FrameRule.{Framed, framed}
 use Rattle.compiler.proofs.StepLaws.{Coded}
 
-pub arities_at : (sig : Signature) (f : ℕ) → get_or (arities_of sig) f 0 ≡ arity_at sig f
+arities_at : (sig : Signature) (f : ℕ) → get_or (arities_of sig) f 0 ≡ arity_at sig f
 arities_at [] f = refl
 arities_at (s ∷ sig) zero = refl
 arities_at (s ∷ sig) (suc f) = arities_at sig f
-
-pub arities_long : (sig : Signature) → length (arities_of sig) ≡ length sig
-arities_long [] = refl
-arities_long (s ∷ sig) = ap suc (arities_long sig)
 
 module _ (n : ℕ) (sig : Signature) where
   abbrev ar : List ℕ
@@ -49,7 +45,7 @@ module _ (n : ℕ) (sig : Signature) where
   argument_in a h = and_from _ _ (le-leb 1 a h.0) (le-leb a 8 h.1)
 
   known_in : (f : ℕ) → f < length sig → ltb f (length ar) ≡ true
-  known_in f h = lt-ltb f (length ar) (omega (arith, arities_long sig))
+  known_in f h = lt-ltb f (length ar) (omega (arith, length-map sig (λ s. s.arity)))
 
   constant_in : (c : ℕ) → (c < length sig) × (arity_at sig c ≡ 0) → (ltb c (length ar) && eqb (get_or ar c 0) 0) ≡ true
   constant_in c h = and_from _ _ (known_in c h.0) (eq-eqb (get_or ar c 0) 0 (arities_at sig c ∙ h.1))
@@ -190,17 +186,10 @@ module _ {sig : Signature} {q vars n : ℕ} {ps : List ℕ} {ts : List Item} {ou
     v7_kept = eq-eqb key (key_of (map decode raw)) is;
   }
 
-pub wrote : {sig : Signature} {q vars n : ℕ} {ps : List ℕ} {ts : List Item} (words words' : List ℕ) (at next : ℕ) → Coded sig q vars n ps ts (take at words) (take next words') (replicate n false)
-    → ((f : ℕ) → arity_at sig f ≤ 8) → length sig ≤ 256 → n ≤ 128 → weight ps ts ≤ 128 → length ps ≤ 8 → Onto words words' at next (weight ps ts + 2) → Wrote sig q ps ts words words' at next
-wrote {sig} {q} {ps = ps} {ts = ts} words words' at next c arities small few light goals onto = record {
-  code = map encode c.code;
-  longer = c.longer;
-  size = map_long encode c.code ∙ c.size;
-  onto = onto;
+pub wrote : {sig : Signature} {q vars n : ℕ} {ps : List ℕ} {ts : List Item} (code : List ℕ) → Coded sig q vars n ps ts [] code (replicate n false)
+    → ((f : ℕ) → arity_at sig f ≤ 8) → length sig ≤ 256 → n ≤ 128 → weight ps ts ≤ 128 → length ps ≤ 8 → Wrote sig q ps ts code
+wrote {sig} {q} {ps = ps} {ts = ts} code c arities small few light goals = subst (Wrote sig q ps ts) (sym c.longer) (record {
+  size = length-map c.code encode ∙ c.size;
   carries = subst (Carries sig q ps ts) (sym c.exact) c.carries;
   kept = kept c arities small few light goals (key_of (map decode (map encode c.code))) refl;
-}
-  where
-    map_long : {X Y : Type 0} (f : X → Y) (xs : List X) → length (map f xs) ≡ length xs
-    map_long f [] = refl
-    map_long f (x ∷ xs) = ap suc (map_long f xs)
+})

@@ -1,13 +1,14 @@
 -- Rule V5 of code that fills its slots in order, and the range of its slots.
-use Rattle.std.proofs.Common.{◌≡◌, ℕ, zero, suc, ◌+◌, ◌-◌, ◌<◌, ◌≤◌, Bool, true, false, not, ◌&&◌, eqb, List, [], ◌∷◌, length, get_or, set, replicate, sym, refl, ap, ◌∙◌, subst, inl, inr, arith, length-set, get_or-set_other, get_or-set_same}
+use Rattle.std.proofs.Common.{◌≡◌, ℕ, zero, suc, ◌+◌, ◌-◌, ◌<◌, ◌≤◌, Bool, true, false, ◌&&◌, List, [], ◌∷◌, length, get_or, set, replicate, Option, Some, None, is_some, is_none, sym, refl, ap, ◌∙◌, subst, inl, inr, arith, length-set, get_or-set_other, get_or-set_same}
 use lib.ListN.{length-replicate}
 use Rattle.std.proofs.lemmas.List.{get_or_past, get_or_default, get_or-replicate}
-use Rattle.std.proofs.lemmas.Bool.{eq-eqb, ne_eqb, le-leb, and_from, cases_eq, cases_lt}
+use Rattle.std.proofs.lemmas.Bool.{leb-true, le-leb, and_from, cases_eq, cases_lt}
 use Rattle.code.specs.declared.instructions.Operand.{Operand}
 use Rattle.code.specs.declared.instructions.Operand.TheVariants.{Fresh, Known, Constant}
 use Rattle.code.specs.declared.instructions.Instruction.{Instruction}
 use Rattle.code.specs.declared.instructions.Instruction.TheVariants.{Allocate, Get, GetStructure, Unify, Put, PutStructure, Set, Call, Proceed}
 use Rattle.symbol_table.specs.Symbols.{Signature, arity_at}
+use Rattle.compiler.proofs.FillLaws.{fill_long}
 use Rattle.compiler.specs.Filling.{Empty, Filled, Fits, fill}
 use Rattle.compiler.specs.Order.{Orderly}
 use Rattle.compiler.specs.Lawful.{Lawfuls}
@@ -64,40 +65,44 @@ due_empty sig (suc k) z (PutStructure y f ∷ ws) s h = absurd h.0
 due_empty sig (suc k) z (Call p ∷ ws) s h = absurd h.0
 due_empty sig (suc k) z (Proceed ∷ ws) s h = absurd h.0
 
--- T has for each slot 0, or the place from which on it may be read; at word i it says of the slots s what they are, but for z
-pub record Ties (i : ℕ) (s : List Bool) (T : List ℕ) (n : ℕ) (Off : ℕ → Type 0) : Type 0 where
+-- T has for each slot that was set the place from which on it may be read; at word i it says of the slots s what they are, but for those that are off
+pub record Ties (i : ℕ) (s : List Bool) (T : List (Option ℕ)) (n : ℕ) (Off : ℕ → Type 0) : Type 0 where
   pub size : length s ≡ n
   pub long : n ≤ length T
-  pub filled : (y : ℕ) → Filled s y → (Off y → ⊥) → (1 ≤ get_or T y 0) × (get_or T y 0 ≤ i)
-  pub empty : (y : ℕ) → Empty s y → (Off y → ⊥) → get_or T y 0 ≡ 0
+  pub filled : (y : ℕ) → Filled s y → (Off y → ⊥) → held (get_or T y None) i ≡ true
+  pub empty : (y : ℕ) → Empty s y → (Off y → ⊥) → is_none (get_or T y None) ≡ true
 
 abbrev None_off : ℕ → Type 0
 None_off y = ⊥
 
-later : {s : List Bool} {T : List ℕ} {n : ℕ} {Off : ℕ → Type 0} (i : ℕ) → Ties i s T n Off → Ties (i + 1) s T n Off
-later i t = record { size = t.size; long = t.long; filled = λ y f o. ((t.filled y f o).0, omega (arith, (t.filled y f o).1)); empty = t.empty }
+held_later : (t : Option ℕ) (i : ℕ) → held t i ≡ true → held t (i + 1) ≡ true
+held_later None i h = h
+held_later (Some t) i h = let l = leb-true t i h in le-leb t (i + 1) (omega arith)
+
+held_some : (t : Option ℕ) (i : ℕ) → held t i ≡ true → is_some t ≡ true
+held_some None i h = h
+held_some (Some t) i h = refl
+
+later : {s : List Bool} {T : List (Option ℕ)} {n : ℕ} {Off : ℕ → Type 0} (i : ℕ) → Ties i s T n Off → Ties (i + 1) s T n Off
+later {T = T} i t = record { size = t.size; long = t.long; filled = λ y f o. held_later (get_or T y None) i (t.filled y f o); empty = t.empty }
 
 -- a slot is filled by the word i
-filled_now : {s : List Bool} {T : List ℕ} {n : ℕ} {Off : ℕ → Type 0} (i y : ℕ) → y < length s → Ties i s T n Off → Ties (i + 1) (set s y true) (set T y (i + 1 + 0)) n Off
+filled_now : {s : List Bool} {T : List (Option ℕ)} {n : ℕ} {Off : ℕ → Type 0} (i y : ℕ) → y < length s → Ties i s T n Off → Ties (i + 1) (set s y true) (set T y (Some (i + 1 + 0))) n Off
 filled_now {s} {T} i y lt t = record {
   size = length-set s y true ∙ t.size;
-  long = omega (arith, t.long, length-set T y (i + 1 + 0));
+  long = omega (arith, t.long, length-set T y (Some (i + 1 + 0)));
   filled = λ x f o.
       elim (cases_eq x y) [
-        | inl q ↦ (let a : get_or (set T y (i + 1 + 0)) x 0 ≡ i + 1 + 0 = ap (λ k. get_or (set T y (i + 1 + 0)) k 0) q ∙ get_or-set_same T y (i + 1 + 0) 0 (omega (arith, t.long, t.size)) in (omega arith, omega arith))
-        | inr ne ↦ (let a = get_or-set_other T y x (i + 1 + 0) 0 ne in let b = t.filled x (sym (get_or-set_other s y x true false ne) ∙ f) o in (omega (arith, a, b.0), omega (arith, a, b.1)))
+        | inl q ↦
+            ap (λ u. held u (i + 1)) (ap (λ k. get_or (set T y (Some (i + 1 + 0))) k None) q ∙ get_or-set_same T y (Some (i + 1 + 0)) None (omega (arith, t.long, t.size)))
+            ∙ le-leb (i + 1 + 0) (i + 1) (omega arith)
+        | inr ne ↦
+            ap (λ u. held u (i + 1)) (get_or-set_other T y x (Some (i + 1 + 0)) None ne)
+            ∙ held_later (get_or T x None) i (t.filled x (sym (get_or-set_other s y x true false ne) ∙ f) o)
       ];
   empty = λ x e o.
-      (let u = unfilled s y x lt e in get_or-set_other T y x (i + 1 + 0) 0 (λ q. u.0 (sym q)) ∙ t.empty x u.1 o);
+      (let u = unfilled s y x lt e in ap is_none (get_or-set_other T y x (Some (i + 1 + 0)) None (λ q. u.0 (sym q))) ∙ t.empty x u.1 o);
 }
-
-can_read_lem : {s : List Bool} {T : List ℕ} {n : ℕ} {Off : ℕ → Type 0} (i y : ℕ) → Ties i s T n Off → Filled s y → (Off y → ⊥) → held (get_or T y 0) i ≡ true
-can_read_lem {T = T} i y t f o =
-    let h = t.filled y f o in
-    and_from _ _ (ap not (ne_eqb (get_or T y 0) 0 (λ q. let p = h.0 in omega arith))) (le-leb (get_or T y 0) i h.1)
-
-can_set_lem : {s : List Bool} {T : List ℕ} {n : ℕ} {Off : ℕ → Type 0} (i y : ℕ) → Ties i s T n Off → Empty s y → (Off y → ⊥) → eqb (get_or T y 0) 0 ≡ true
-can_set_lem {T = T} i y t e o = eq-eqb (get_or T y 0) 0 (t.empty y e o)
 
 -- the operand's slot is none of these
 abbrev Free : Operand → (ℕ → Type 0) → Type 0
@@ -118,48 +123,48 @@ free_due (Constant c) s z f e = tt
 
 module _ (sig : Signature) (ar : List ℕ) (same : (f : ℕ) → get_or ar f 0 ≡ arity_at sig f) (n : ℕ) where
   -- an instruction with an operand
-  by_operand : (o : Operand) (i : ℕ) (s : List Bool) (T : List ℕ) (Off : ℕ → Type 0) (ws : List Instruction) → Ties i s T n Off → Fits o s → Free o Off
-      → ((T' : List ℕ) → Ties (i + 1) (fill o s) T' n Off → ((x : ℕ) → Off x → get_or T' x 0 ≡ get_or T x 0) → slot_pass n ar (i + 1) T' ws ≡ true)
+  by_operand : (o : Operand) (i : ℕ) (s : List Bool) (T : List (Option ℕ)) (Off : ℕ → Type 0) (ws : List Instruction) → Ties i s T n Off → Fits o s → Free o Off
+      → ((T' : List (Option ℕ)) → Ties (i + 1) (fill o s) T' n Off → ((x : ℕ) → Off x → get_or T' x None ≡ get_or T x None) → slot_pass n ar (i + 1) T' ws ≡ true)
       → (can_read T i (known o) && (can_set T (fresh o) && slot_pass n ar (i + 1) (marked T (fresh o) (i + 1 + 0)) ws)) ≡ true
   by_operand (Fresh y) i s T Off ws t f off go =
-      and_from _ _ (can_set_lem i y t f off)
-      (go (set T y (i + 1 + 0)) (filled_now i y (empty_in s y f) t) (λ x h. get_or-set_other T y x (i + 1 + 0) 0 (λ q. off (subst Off q h))))
-  by_operand (Known y) i s T Off ws t f off go = and_from _ _ (can_read_lem i y t f off) (go T (later i t) (λ x h. refl))
+      and_from _ _ (t.empty y f off)
+      (go (set T y (Some (i + 1 + 0))) (filled_now i y (empty_in s y f) t) (λ x h. get_or-set_other T y x (Some (i + 1 + 0)) None (λ q. off (subst Off q h))))
+  by_operand (Known y) i s T Off ws t f off go = and_from _ _ (t.filled y f off) (go T (later i t) (λ x h. refl))
   by_operand (Constant c) i s T Off ws t f off go = go T (later i t) (λ x h. refl)
 
   -- put_structure's slot waits
-  waiting : (i y m : ℕ) (s : List Bool) (T : List ℕ) → Ties i s T n None_off → Ties (i + 1) s (set T y m) n (λ x. x ≡ y)
+  waiting : (i y m : ℕ) (s : List Bool) (T : List (Option ℕ)) → Ties i s T n None_off → Ties (i + 1) s (set T y (Some m)) n (λ x. x ≡ y)
   waiting i y m s T t = record {
     size = t.size;
-    long = omega (arith, t.long, length-set T y m);
-    filled = λ x f o. (let a = get_or-set_other T y x m 0 o in let b = t.filled x f (λ z. z) in (omega (arith, a, b.0), omega (arith, a, b.1)));
-    empty = λ x e o. get_or-set_other T y x m 0 o ∙ t.empty x e (λ z. z);
+    long = omega (arith, t.long, length-set T y (Some m));
+    filled = λ x f o. ap (λ u. held u (i + 1)) (get_or-set_other T y x (Some m) None o) ∙ held_later (get_or T x None) i (t.filled x f (λ z. z));
+    empty = λ x e o. ap is_none (get_or-set_other T y x (Some m) None o) ∙ t.empty x e (λ z. z);
   }
 
   -- it is set after its words
-  arrived : (i z : ℕ) (s : List Bool) (T : List ℕ) → z < length s → Ties i s T n (λ x. x ≡ z) → get_or T z 0 ≡ i → 1 ≤ i → Ties i (set s z true) T n None_off
-  arrived i z s T lt t at some = record {
+  arrived : (i z : ℕ) (s : List Bool) (T : List (Option ℕ)) → z < length s → Ties i s T n (λ x. x ≡ z) → get_or T z None ≡ Some i → Ties i (set s z true) T n None_off
+  arrived i z s T lt t at = record {
     size = length-set s z true ∙ t.size;
     long = t.long;
     filled = λ x f o.
         elim (cases_eq x z) [
-          | inl q ↦ (let a : get_or T x 0 ≡ i = ap (λ k. get_or T k 0) q ∙ at in (omega arith, omega arith))
+          | inl q ↦ ap (λ u. held u i) (ap (λ k. get_or T k None) q ∙ at) ∙ le-leb i i (omega arith)
           | inr ne ↦ t.filled x (sym (get_or-set_other s z x true false ne) ∙ f) ne
         ];
     empty = λ x e o. (let u = unfilled s z x lt e in t.empty x u.1 (λ q. u.0 (sym q)));
   }
 
-  abbrev State : ℕ → ℕ → ℕ → List Bool → List ℕ → Type 0
+  abbrev State : ℕ → ℕ → ℕ → List Bool → List (Option ℕ) → Type 0
   State zero z i s T = Ties i s T n None_off
-  State (suc k) z i s T = Ties i s T n (λ y. y ≡ z) × (get_or T z 0 ≡ i + suc k)
+  State (suc k) z i s T = Ties i s T n (λ y. y ≡ z) × (get_or T z None ≡ Some (i + suc k))
 
-  pass : (ws : List Instruction) (k z i : ℕ) (s : List Bool) (T : List ℕ) → Orderly sig k z ws s → Lawfuls sig ws → State k z i s T → slot_pass n ar i T ws ≡ true
+  pass : (ws : List Instruction) (k z i : ℕ) (s : List Bool) (T : List (Option ℕ)) → Orderly sig k z ws s → Lawfuls sig ws → State k z i s T → slot_pass n ar i T ws ≡ true
   pass [] zero z i s T h l t =
-      below_all n _ (λ y lt. (let f = t.filled y (h y (omega (arith, t.size))) (λ q. q) in ap not (ne_eqb (get_or T y 0) 0 (λ q. let p = f.0 in omega arith))))
+      below_all n _ (λ y lt. held_some (get_or T y None) i (t.filled y (h y (omega (arith, t.size))) (λ q. q)))
   pass [] (suc k) z i s T h l t = absurd h
   pass (Allocate m ∷ ws) zero z i s T h l t = pass ws 0 0 (i + 1) s T h.1 l.1 (later i t)
   pass (Get o a ∷ ws) zero z i s T h l t = by_operand o i s T None_off ws t h.0 (free_none o) (λ T' t' kept. pass ws 0 0 (i + 1) (fill o s) T' h.1 l.1 t')
-  pass (GetStructure y f ∷ ws) zero z i s T h l t = and_from _ _ (can_read_lem i y t h.0 (λ q. q)) (pass ws 0 0 (i + 1) s T h.1 l.1 (later i t))
+  pass (GetStructure y f ∷ ws) zero z i s T h l t = and_from _ _ (t.filled y h.0 (λ q. q)) (pass ws 0 0 (i + 1) s T h.1 l.1 (later i t))
   pass (Unify o ∷ ws) zero z i s T h l t = by_operand o i s T None_off ws t h.0 (free_none o) (λ T' t' kept. pass ws 0 0 (i + 1) (fill o s) T' h.1 l.1 t')
   pass (Put o a ∷ ws) zero z i s T h l t = by_operand o i s T None_off ws t h.0 (free_none o) (λ T' t' kept. pass ws 0 0 (i + 1) (fill o s) T' h.1 l.1 t')
   pass (Set o ∷ ws) zero z i s T h l t = by_operand o i s T None_off ws t h.0 (free_none o) (λ T' t' kept. pass ws 0 0 (i + 1) (fill o s) T' h.1 l.1 t')
@@ -170,17 +175,17 @@ module _ (sig : Signature) (ar : List ℕ) (same : (f : ℕ) → get_or ar f 0 �
       let m : ℕ = arity_at sig f - 1 in
       let e : arity_at sig f ≡ suc m = (let q = l.0.1 in omega arith) in
       let empty = from m e in
-      and_from _ _ (can_set_lem i y t empty (λ q. q))
-      (ap (λ k. slot_pass n ar (i + 1) (set T y (i + 1 + k)) ws) (same f ∙ e)
-      ∙ pass ws (suc m) y (i + 1) s (set T y (i + 1 + suc m)) (subst (λ k. Orderly sig k y ws s) e h.1) l.1
-      (waiting i y (i + 1 + suc m) s T t, get_or-set_same T y (i + 1 + suc m) 0 (omega (arith, t.long, t.size, empty_in s y empty))))
+      and_from _ _ (t.empty y empty (λ q. q))
+      (ap (λ k. slot_pass n ar (i + 1) (set T y (Some (i + 1 + k))) ws) (same f ∙ e)
+      ∙ pass ws (suc m) y (i + 1) s (set T y (Some (i + 1 + suc m))) (subst (λ k. Orderly sig k y ws s) e h.1) l.1
+      (waiting i y (i + 1 + suc m) s T t, get_or-set_same T y (Some (i + 1 + suc m)) None (omega (arith, t.long, t.size, empty_in s y empty))))
   pass (Set o ∷ ws) (suc zero) z i s T h l t =
       by_operand o i s T (λ y. y ≡ z) ws t.0 h.1 (free_due o s z h.1 h.2) (λ T' t' kept.
       pass ws 0 0 (i + 1) (set (fill o s) z true) T' h.3 l.1
-      (arrived (i + 1) z (fill o s) T' (empty_in (fill o s) z h.2) t' (kept z refl ∙ t.1) (omega arith)))
+      (arrived (i + 1) z (fill o s) T' (empty_in (fill o s) z h.2) t' (kept z refl ∙ t.1)))
   pass (Set o ∷ ws) (suc (suc k)) z i s T h l t =
       by_operand o i s T (λ y. y ≡ z) ws t.0 h.1 (free_due o s z h.1 (due_empty sig k z ws (fill o s) h.2)) (λ T' t' kept.
-      pass ws (suc k) z (i + 1) (fill o s) T' h.2 l.1 (t', kept z refl ∙ t.1 ∙ omega arith))
+      pass ws (suc k) z (i + 1) (fill o s) T' h.2 l.1 (t', kept z refl ∙ t.1 ∙ ap Some (let e : i + suc (suc k) ≡ i + 1 + suc k = omega arith in e)))
   pass (Allocate n ∷ ws) (suc zero) z i s T h l t = absurd h.0
   pass (Allocate n ∷ ws) (suc (suc k)) z i s T h l t = absurd h.0
   pass (Get o a ∷ ws) (suc zero) z i s T h l t = absurd h.0
@@ -199,23 +204,23 @@ module _ (sig : Signature) (ar : List ℕ) (same : (f : ℕ) → get_or ar f 0 �
   pass (Proceed ∷ ws) (suc (suc k)) z i s T h l t = absurd h.0
 
 -- code that fills its slots in order, from none on
-abbrev none : List ℕ
-none = replicate 256 0
+abbrev none : List (Option ℕ)
+none = replicate 256 None
 
-none_at : (y : ℕ) → get_or none y 0 ≡ 0
-none_at y = elim (cases_lt y 256) [ inl l ↦ get_or-replicate 256 y 0 0 l | inr g ↦ get_or_past none y 0 (let e : length none ≡ 256 = length-replicate {A = ℕ} 256 0 in omega arith) ]
+none_at : (y : ℕ) → get_or none y None ≡ None
+none_at y = elim (cases_lt y 256) [ inl l ↦ get_or-replicate 256 y None None l | inr g ↦ get_or_past none y None (let e : length none ≡ 256 = length-replicate {A = Option ℕ} 256 None in omega arith) ]
 
 pub slots_kept : (sig : Signature) (ar : List ℕ) (same : (f : ℕ) → get_or ar f 0 ≡ arity_at sig f) (n : ℕ) (ws : List Instruction) → n ≤ 256 → Orderly sig 0 0 ws (replicate n false) → Lawfuls sig ws
     → slot_pass n ar 0 none ws ≡ true
 slots_kept sig ar same n ws few h l =
     pass sig ar same n ws 0 0 0 (replicate n false) none h l (record {
       size = length-replicate n false;
-      long = (let e : length none ≡ 256 = length-replicate {A = ℕ} 256 0 in omega arith);
+      long = (let e : length none ≡ 256 = length-replicate {A = Option ℕ} 256 None in omega arith);
       filled = λ y f o.
           (let a : get_or (replicate n false) y false ≡ false = elim (cases_lt y n) [ inl lt ↦ get_or-replicate n y false false lt | inr g ↦ get_or_past (replicate n false) y false (omega (arith, length-replicate n false)) ] in
           let z : true ≡ false = sym f ∙ a in
           let q : ◌≡◌ {A = ℕ} 0 1 = cc in absurd (omega arith));
-      empty = λ y e o. none_at y;
+      empty = λ y e o. ap is_none (none_at y);
     })
 
 -- slots below m
@@ -244,19 +249,14 @@ low (Fresh y) s f = empty_in s y f
 low (Known y) s f = filled_in s y f
 low (Constant c) s f = tt
 
-fill_length : (o : Operand) (s : List Bool) → length (fill o s) ≡ length s
-fill_length (Fresh y) s = length-set s y true
-fill_length (Known y) s = refl
-fill_length (Constant c) s = refl
-
 pub slots_inside : (sig : Signature) (ws : List Instruction) (k z : ℕ) (s : List Bool) → Orderly sig k z ws s → Lawfuls sig ws → Insides (length s) ws
 slots_inside sig [] k z s h l = tt
 slots_inside sig (Allocate n ∷ ws) zero z s h l = (tt, slots_inside sig ws 0 0 s h.1 l.1)
-slots_inside sig (Get o a ∷ ws) zero z s h l = (low o s h.0, subst (λ m. Insides m ws) (fill_length o s) (slots_inside sig ws 0 0 (fill o s) h.1 l.1))
+slots_inside sig (Get o a ∷ ws) zero z s h l = (low o s h.0, subst (λ m. Insides m ws) (fill_long o s) (slots_inside sig ws 0 0 (fill o s) h.1 l.1))
 slots_inside sig (GetStructure y f ∷ ws) zero z s h l = (filled_in s y h.0, slots_inside sig ws 0 0 s h.1 l.1)
-slots_inside sig (Unify o ∷ ws) zero z s h l = (low o s h.0, subst (λ m. Insides m ws) (fill_length o s) (slots_inside sig ws 0 0 (fill o s) h.1 l.1))
-slots_inside sig (Put o a ∷ ws) zero z s h l = (low o s h.0, subst (λ m. Insides m ws) (fill_length o s) (slots_inside sig ws 0 0 (fill o s) h.1 l.1))
-slots_inside sig (Set o ∷ ws) zero z s h l = (low o s h.0, subst (λ m. Insides m ws) (fill_length o s) (slots_inside sig ws 0 0 (fill o s) h.1 l.1))
+slots_inside sig (Unify o ∷ ws) zero z s h l = (low o s h.0, subst (λ m. Insides m ws) (fill_long o s) (slots_inside sig ws 0 0 (fill o s) h.1 l.1))
+slots_inside sig (Put o a ∷ ws) zero z s h l = (low o s h.0, subst (λ m. Insides m ws) (fill_long o s) (slots_inside sig ws 0 0 (fill o s) h.1 l.1))
+slots_inside sig (Set o ∷ ws) zero z s h l = (low o s h.0, subst (λ m. Insides m ws) (fill_long o s) (slots_inside sig ws 0 0 (fill o s) h.1 l.1))
 slots_inside sig (Call p ∷ ws) zero z s h l = (tt, slots_inside sig ws 0 0 s h.1 l.1)
 slots_inside sig (Proceed ∷ ws) zero z s h l = (tt, slots_inside sig ws 0 0 s h.1 l.1)
 slots_inside sig (PutStructure y f ∷ ws) zero z s h l =
@@ -264,8 +264,8 @@ slots_inside sig (PutStructure y f ∷ ws) zero z s h l =
     let e : arity_at sig f ≡ suc m = (let q = l.0.1 in omega arith) in
     (empty_in s y (due_empty sig m y ws s (subst (λ k. Orderly sig k y ws s) e h.1)), slots_inside sig ws (arity_at sig f) y s h.1 l.1)
 slots_inside sig (Set o ∷ ws) (suc zero) z s h l =
-    (low o s h.1, subst (λ m. Insides m ws) (length-set (fill o s) z true ∙ fill_length o s) (slots_inside sig ws 0 0 (set (fill o s) z true) h.3 l.1))
-slots_inside sig (Set o ∷ ws) (suc (suc k)) z s h l = (low o s h.1, subst (λ m. Insides m ws) (fill_length o s) (slots_inside sig ws (suc k) z (fill o s) h.2 l.1))
+    (low o s h.1, subst (λ m. Insides m ws) (length-set (fill o s) z true ∙ fill_long o s) (slots_inside sig ws 0 0 (set (fill o s) z true) h.3 l.1))
+slots_inside sig (Set o ∷ ws) (suc (suc k)) z s h l = (low o s h.1, subst (λ m. Insides m ws) (fill_long o s) (slots_inside sig ws (suc k) z (fill o s) h.2 l.1))
 slots_inside sig (Allocate n ∷ ws) (suc zero) z s h l = absurd h.0
 slots_inside sig (Allocate n ∷ ws) (suc (suc k)) z s h l = absurd h.0
 slots_inside sig (Get o a ∷ ws) (suc zero) z s h l = absurd h.0

@@ -1,6 +1,7 @@
 -- The code of a clause, step by step.
-use Rattle.std.proofs.Common.{◌≡◌, ℕ, zero, suc, ◌+◌, ◌-◌, ◌<◌, ◌≤◌, Bool, true, false, ◌⊎◌, List, [], ◌∷◌, ◌++◌, map, length, get_or, take, drop, set, replicate, sym, refl, ap, ◌∙◌, subst, ap₂, subst₂, inl, inr, ⊎_elim, append_assoc, append-nil, add-one, arith, length-append, get_or-set_other, get_or-set_same}
+use Rattle.std.proofs.Common.{◌≡◌, ℕ, zero, suc, ◌+◌, ◌-◌, ◌<◌, ◌≤◌, Bool, true, false, ◌⊎◌, List, [], ◌∷◌, ◌++◌, map, length, get_or, take, drop, replicate, sym, refl, ap, ◌∙◌, subst, ap₂, subst₂, inl, inr, ⊎_elim, append_assoc, append-nil, add-one, arith, length-append}
 use mathlib.Core.List.{map-append, append_cancel_left}
+use borrow.Author.Count.{below_more}
 use native.Mathlib.Decide.{ℕ_discrete, dec_lt}
 use Rattle.std.proofs.lemmas.List.{take_more, drop_more, take_all, drop_all, get_or-replicate}
 use Rattle.horn.specs.Terms.{var, node, nil, cons, count, join}
@@ -26,7 +27,7 @@ use Rattle.compiler.specs.declared.items.Item.{Item}
 use Rattle.compiler.specs.declared.items.Item.TheVariants.{Atom, Structure, Variable}
 use Rattle.code.specs.declared.instructions.Instruction.{Instruction}
 use Rattle.compiler.specs.declared.flat.Flat.{Flat}
-use Rattle.compiler.specs.Tables.{Ready}
+use Rattle.compiler.specs.Tables.{items_of, ends_of, slots_of, Ready}
 use Rattle.symbol_table.specs.Tables.{signature}
 use Rattle.compiler.specs.Lawful.{Lawfuls}
 use Rattle.code.specs.Tests.{total}
@@ -35,19 +36,13 @@ use Rattle.code.specs.Meaning.{goals}
 use Rattle.compiler.proofs.CallLaws.{goals_count}
 use Rattle.code.specs.Words.{encode, decode}
 use Rattle.code.specs.declared.instructions.Instruction.TheVariants.{Allocate, Call, Proceed}
-use Rattle.compiler.specs.declared.rows.Role.{Role}
-use Rattle.compiler.specs.declared.rows.Role.TheVariants.{Gets, Puts}
+use Rattle.compiler.specs.Rows.{Role}
+use Rattle.compiler.specs.Rows.{Gets, Puts}
 
 gain_is : (sig : Signature) (k : Item) → gain sig k ≡ single k + width sig k
 gain_is sig (Atom c) = refl
 gain_is sig (Structure f) = omega arith
 gain_is sig (Variable v) = refl
-
--- what is no structure takes no words
-pub gain_leaf : (sig : Signature) (k : Item) → ((f : ℕ) → k ≡ Structure f → ⊥) → gain sig k ≡ 0
-gain_leaf sig (Atom c) h = refl
-gain_leaf sig (Structure f) h = absurd (h f refl)
-gain_leaf sig (Variable v) h = refl
 
 run_join : (e : ℕ → ℕ) (end n m i j k : ℕ) → Run e end n i j → Run e end m j k → Run e end (n + m) i k
 run_join e end zero m i j k r q = subst₂ (λ x y. Run e end x y k) (omega arith) (sym r) q
@@ -57,10 +52,6 @@ run_join e end (suc n) m i j k r q = let z : suc (n + m) ≡ suc n + m = omega a
 pub run_none : {p : Plan} → Ends p 0 → (n i : ℕ) → Run p.after p.size n i i → n ≡ 0
 run_none ends zero i r = refl
 run_none {p} ends (suc n) i r = absurd (omega (arith, ends.forth i (omega arith) r.0, run_up ends n (p.after i) i (omega arith) r.1))
-
--- below one more
-below_one : (P : ℕ → Type 0) (i : ℕ) → ((k : ℕ) → k < i → P k) → P i → (k : ℕ) → k < i + 1 → P k
-below_one P i h here k lt = elim (ℕ_discrete k i) [ yes q ↦ subst P (sym q) here | no ne ↦ h k (omega arith) ]
 
 -- places of a run
 run_below : {p : Plan} → Ends p 0 → (n j m k : ℕ) → Run p.after p.size n j m → k < n → hop p.after k j < m
@@ -139,7 +130,7 @@ module _ {p : Plan} (ends : Ends p 0) (apart : Apart p) {out out' out'' : List �
         left = wide p i + m;
         run = run_join p.after p.size (wide p i) m (i + 1) (p.after i) end (subst (λ x. Run p.after p.size (wide p i) x (p.after i)) (sym (add-one i)) run) r.1;
         added = added_as _ (λ α ρ. (k : ℕ) → k < i + 1 → BuiltAt p ρ k) refl
-            (λ α ρ x. below_one (λ k. BuiltAt p ρ k) i x.0 x.1)
+            (λ α ρ x. below_more (λ k. BuiltAt p ρ k) i x.0 x.1)
             (λ α ρ y. (λ k h. y k (omega arith), y i (omega arith)))
             (added_then was.added struck.added);
         count = omega (arith, gain_is p.sig (p.tok i), ap (before p) (add-one i));
@@ -152,26 +143,12 @@ module _ {p : Plan} (ends : Ends p 0) (apart : Apart p) {out out' out'' : List �
                   ap (λ x. hop p.after x (i + 1)) split ∙ hop_join p.after (wide p i) (k - wide p i) (i + 1) ∙ ap (hop p.after (k - wide p i)) stop in
                   subst (λ x. MarkedAt p s'' x) (sym there) (marked_at p s' s'' _ more (chain (suc (k - wide p i)) (omega arith)))
             ];
-        done = below_one (λ k. MarkedAt p s'' k) i (λ k h. marked_at p s' s'' k more (was.done k h)) (marked_at p s' s'' i more (chain 0 (omega arith)));
+        done = below_more (λ k. MarkedAt p s'' k) i (λ k h. marked_at p s' s'' k more (was.done k h)) (marked_at p s' s'' i more (chain 0 (omega arith)));
         ahead = λ x f lo hi is. struck_keeps ends apart i struck r.0 x f hi is (λ k low below q. omega arith) (was.ahead x f lo hi is);
       }
 
   pub head_turn : HeadUpTo p out out'' n (i + 1) end s s''
   head_turn = head_go was.left was.run was.count was.chain
-
-  go_size : (left : ℕ) (r : Run p.after p.size left i end) (c : n + was.size ≡ i + left + before p i) (chain : (k : ℕ) → k < left → MarkedAt p s' (hop p.after k i)) → was.size + gain p.sig (p.tok i) ≡ (head_go left r c chain).size
-  unfolding head_go
-  go_size zero r c chain = absurd (omega arith)
-  go_size (suc m) r c chain = refl
-
-  pub head_size : was.size + gain p.sig (p.tok i) ≡ head_turn.size
-  unfolding head_turn
-  head_size = go_size was.left was.run was.count was.chain
-
-pub head_words : {p : Plan} → Ends p 0 → {out out' : List ℕ} {n i end : ℕ} {s s' : List Bool} (was : HeadUpTo p out out' n i end s s') → i ≡ end → n + was.size ≡ end + before p end
-head_words {p} ends {end = end} was z =
-    let none : was.left ≡ 0 = run_none ends was.left end (subst (λ x. Run p.after p.size was.left x end) z was.run) in
-    omega (arith, was.count, ap (before p) z)
 
 pub head_end : {p : Plan} → Ends p 0 → (q n i end : ℕ) (out out₁ out₂ : List ℕ) (s s' s'' : List Bool) → n ≡ arity_at p.sig q → i ≡ end → end ≡ hop p.after (arity_at p.sig q) 0
     → Rowed p Gets out out₁ s s' n 0 → HeadUpTo p out₁ out₂ n i end s' s'' → Opened p q end out out₂ s s''
@@ -327,16 +304,9 @@ goal_room {p} ends {from = from} {end = end} i n was lo hi whole =
 
 -- the same turn, as the code has it: i is one more than the place
 module _ {p : Plan} (ends : Ends p 0) (apart : Apart p) {out out' : List ℕ} {from end : ℕ} {s s' : List Bool} (i : ℕ) (was : GoalDown p out out' from i end s s') (some : from < i) (up : i ≤ end) (le : end ≤ p.size) where
-  pub goal_empty : Ahead p s' (i - 1) (i - 1 + 1)
-  goal_empty = λ x f lo hi is. was.above x f (omega arith) (omega arith) is
-
   pub goal_turn : {out'' : List ℕ} {s'' : List Bool} (n : ℕ) → Run p.after p.size n from end → Struck p goal (i - 1) out' out'' s' s'' → GoalDown p out out'' from (i - 1) end s s''
   goal_turn n whole struck =
       goal_down ends apart (goal_at i (i - 1 + 1) (omega arith) was) (omega arith) (omega arith) le n whole struck
-
-  pub goal_size : {out'' : List ℕ} {s'' : List Bool} (n : ℕ) (whole : Run p.after p.size n from end) (struck : Struck p goal (i - 1) out' out'' s' s'') → was.size + gain p.sig (p.tok (i - 1)) ≡ (goal_turn n whole struck).size
-  unfolding goal_turn goal_down
-  goal_size n whole struck = refl
 
 pub goal_end : {p : Plan} → Ends p 0 → Apart p → (q from i end : ℕ) (out out₁ out₂ out₃ : List ℕ) (s s' s'' : List Bool) (n : ℕ) (w : Instruction) → i ≡ from → end ≤ p.size → GoalDown p out out₁ from i end s s' → n ≡ arity_at p.sig q
     → Run p.after p.size (arity_at p.sig q) from end → Rowed p Puts out₁ out₂ s' s'' n from → w ≡ Call q → out₃ ≡ out₂ ++ encode w ∷ [] → decode (encode w) ≡ w → q < length p.sig → Goal p q out out₃ from end s s''
@@ -559,15 +529,6 @@ module _ (sig : Signature) (vars q n : ℕ) (ps : List ℕ) (ts : List Item) (es
     );
   }
 
--- one more slot
-pub slots_more : (vars : ℕ) (ts : List Item) (i y : ℕ) (ss : List ℕ) → i < length ss → y ≡ vars + structures (take i ts)
-    → ((k : ℕ) → k < i → get_or ss k 0 ≡ vars + structures (take k ts)) → (k : ℕ) → k < i + 1 → get_or (set ss i y) k 0 ≡ vars + structures (take k ts)
-slots_more vars ts i y ss lt is was k below =
-    elim (ℕ_discrete k i) [
-      | yes q ↦ ap (λ x. get_or (set ss i y) x 0) q ∙ get_or-set_same ss i y 0 lt ∙ is ∙ ap (λ x. vars + structures (take x ts)) (sym q)
-      | no ne ↦ get_or-set_other ss i k y 0 ne ∙ was k (omega arith)
-    ]
-
 -- the slot of a structure is below their number
 pub slot_below : (vars : ℕ) (ts : List Item) (ss : List ℕ) → Slotted vars ts ss → (i f : ℕ) → i < length ts → get_or ts i (Atom 0) ≡ Structure f → get_or ss i 0 < vars + structures ts
 slot_below vars ts ss slotted i f lt is = omega (arith, slotted i lt, structures_more ts i lt, structures_up ts (i + 1), ap single is)
@@ -611,23 +572,15 @@ slot_apart vars ts ss slotted num i j f li lj is ne (Structure g) at = λ q.
           absurd (omega (arith, slotted i li, slotted j lj, structures_more ts j lj, ap single at, structures_mono ts (j + 1) i (omega arith))))
     ]
 
-pub ready_made : (l : Flat) (n vars : ℕ) (es ss : List ℕ) → l.after.now ≡ es → l.slots.now ≡ ss → Ends (plan (signature l.symbols.now) l.items.now es []) 0 → length es ≡ length l.items.now
-    → Slotted vars l.items.now ss → length ss ≡ length l.items.now → Numbered vars l.items.now → Known (signature l.symbols.now) l.items.now → n ≡ vars + structures l.items.now → Ready l n
-ready_made l n vars es ss p q ends long slotted broad num known is = record {
-  ends = subst (λ x. Ends (plan (signature l.symbols.now) l.items.now x l.slots.now) 0) (sym p) (ends_any _ l.items.now es [] l.slots.now ends);
-  long = ap length p ∙ long;
-  broad = ap length q ∙ broad;
-  slots = λ i f lt at. omega (arith, is, ap (λ x. get_or x i 0) q, slot_below vars l.items.now ss slotted i f lt at);
-  vars = numbered_more vars n l.items.now (omega arith) num;
-  apart = λ i j f li lj at ne.
-      slot_apart vars l.items.now l.slots.now (subst (λ x. Slotted vars l.items.now x) (sym q) slotted) num i j f li lj at ne (get_or l.items.now j (Atom 0)) refl;
+pub ready_made : (l : Flat) (n vars : ℕ) → Ends (plan (signature l.symbols.now) (items_of l.places.now) (ends_of l.places.now) []) 0
+    → Slotted vars (items_of l.places.now) (slots_of l.places.now) → Numbered vars (items_of l.places.now) → Known (signature l.symbols.now) (items_of l.places.now) → n ≡ vars + structures (items_of l.places.now) → Ready l n
+ready_made l n vars ends slotted num known is = record {
+  ends = ends_any _ (items_of l.places.now) (ends_of l.places.now) [] (slots_of l.places.now) ends;
+  slots = λ i f lt at. omega (arith, is, slot_below vars (items_of l.places.now) (slots_of l.places.now) slotted i f lt at);
+  vars = numbered_more vars n (items_of l.places.now) (omega arith) num;
+  apart = λ i j f li lj at ne. slot_apart vars (items_of l.places.now) (slots_of l.places.now) slotted num i j f li lj at ne (get_or (items_of l.places.now) j (Atom 0)) refl;
   known = known;
 }
-
-pub take_false : (n m : ℕ) → n ≤ m → take n (replicate m false) ≡ replicate n false
-take_false zero m h = refl
-take_false (suc n) zero h = absurd (omega arith)
-take_false (suc n) (suc m) h = ap (λ l. false ∷ l) (take_false n m (omega arith))
 
 -- at first every slot is empty
 pub all_empty : (p : Plan) (s : List Bool) (n : ℕ) → s ≡ replicate n false → ((i f : ℕ) → i < p.size → p.tok i ≡ Structure f → p.slot i < n) → Ahead p s 0 p.size

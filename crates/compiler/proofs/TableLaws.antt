@@ -1,15 +1,20 @@
 -- The tables of a line, as they are filled.
-use Rattle.std.proofs.Common.{◌≡◌, ℕ, zero, suc, ◌+◌, ◌-◌, ◌<◌, ◌≤◌, ◌≢◌, List, [], ◌∷◌, length, get_or, set, sym, refl, ap, ◌∙◌, subst, ap₂, add-one, arith, get_or-set_other, get_or-set_same}
+use Rattle.std.proofs.Common.{◌≡◌, ℕ, zero, suc, ◌+◌, ◌-◌, ◌<◌, ◌≤◌, ◌≢◌, List, [], ◌∷◌, ◌++◌, length, get_or, take, set, sym, refl, ap, ◌∙◌, subst, add-one, arith, get_or-set_other, get_or-set_same}
 use native.Mathlib.Decide.{ℕ_discrete}
+use mathlib.Core.List.{map-append}
+use Rattle.std.proofs.Math.Seq.{get_or-append_seam}
+use Rattle.std.proofs.lemmas.List.{get_or-map, length-map, get_or_append_left}
 use Rattle.horn.specs.Terms.{count}
 use Rattle.symbol_table.specs.Symbols.{Signature, arity_at}
 use Rattle.compiler.specs.Terms.{hop}
 use Rattle.compiler.specs.Reading.{Whole}
 use Rattle.compiler.specs.Places.{Plan, width, Run, Ends}
-use Rattle.compiler.specs.Lines.{plan, Numbered}
-use Rattle.compiler.specs.Tables.{table}
+use Rattle.compiler.specs.Lines.{plan, structures, Numbered}
+use Rattle.compiler.specs.Tables.{items_of, ends_of, slots_of, table, laid}
 use Rattle.compiler.proofs.PlaceLaws.{run_up, run_within}
 use Rattle.compiler.proofs.ReadLaws.{stack, run_there}
+use Rattle.compiler.specs.declared.flat.Flat.{Flat}
+use Rattle.compiler.specs.declared.flat.Place.{Place}
 use Rattle.compiler.specs.declared.items.Item.{Item}
 use Rattle.compiler.specs.declared.items.Item.TheVariants.{Atom, Structure, Variable}
 
@@ -52,10 +57,6 @@ module _ {p : Plan} {lo : ℕ} (ends : Ends p lo) (e : ℕ → ℕ) (same : (k :
       let f = ends.forth j low r.0 in
       (r.0, subst (λ x. Run e p.size n x m) (sym (same j low)) (run_same n (p.after j) m (omega arith) r.1))
 
--- before the first turn, no place is left
-pub ends_none : (sig : Signature) (ts : List Item) (es ss : List ℕ) (n : ℕ) → length ts ≤ n → Ends (plan sig ts es ss) n
-ends_none sig ts es ss n h = record { forth = λ i lo lt. absurd (omega arith); within = λ i lo lt. absurd (omega arith); runs = λ i lo lt. absurd (omega arith) }
-
 module _ (sig : Signature) (ts : List Item) (es ss : List ℕ) (i : ℕ) (whole : Whole sig ts) (ends : Ends (plan sig ts es ss) (i + 1)) (lt : i < length ts) where
   abbrev wd : ℕ
   wd = width sig (get_or ts i (Atom 0))
@@ -97,21 +98,18 @@ module _ (sig : Signature) (ts : List Item) (es ss : List ℕ) (i : ℕ) (whole 
           ];
     }
 
--- the same turn, as the code has it: i is one more than the place that is filled, and es₀ is the table as it was lent
-module _ (sig : Signature) (ts : List Item) {es es₀ : List ℕ} (ss : List ℕ) (i w : ℕ) (whole : Whole sig ts) (ends : Ends (plan sig ts es ss) i) (some : 0 < i) (lt : i ≤ length ts)
-    (passed : es₀ ≡ es) (long : length es ≡ length ts) (wide : w ≡ width sig (get_or ts (i - 1) (Atom 0))) where
+-- the same turn, as the code has it: i is one more than the place that is filled
+module _ (sig : Signature) (ts : List Item) (es ss : List ℕ) (i w : ℕ) (whole : Whole sig ts) (ends : Ends (plan sig ts es ss) i) (some : 0 < i) (lt : i ≤ length ts)
+    (long : length es ≡ length ts) (wide : w ≡ width sig (get_or ts (i - 1) (Atom 0))) where
   ends_back : Ends (plan sig ts es ss) (i - 1 + 1)
   ends_back = let q : i ≡ i - 1 + 1 = omega arith in subst (λ k. Ends (plan sig ts es ss) k) q ends
 
-  pub turn_run : Run (table es₀) (length es₀) w (i - 1 + 1) (hop (table es₀) w (i - 1 + 1))
-  turn_run =
-      subst (λ l. Run (table l) (length l) w (i - 1 + 1) (hop (table l) w (i - 1 + 1))) (sym passed)
-      (subst (λ n. Run (table es) n w (i - 1 + 1) (hop (table es) w (i - 1 + 1))) (sym long)
-      (subst (λ n. Run (table es) (length ts) n (i - 1 + 1) (hop (table es) n (i - 1 + 1))) (sym wide) (next_run sig ts es ss (i - 1) whole ends_back (omega arith))))
+  pub turn_run : Run (table es) (length ts) w (i - 1 + 1) (hop (table es) w (i - 1 + 1))
+  turn_run = subst (λ n. Run (table es) (length ts) n (i - 1 + 1) (hop (table es) n (i - 1 + 1))) (sym wide) (next_run sig ts es ss (i - 1) whole ends_back (omega arith))
 
-  pub turn_ends : (r : ℕ) → r ≡ hop (table es₀) w (i - 1 + 1) → Ends (plan sig ts (set es (i - 1) r) ss) (i - 1)
+  pub turn_ends : (r : ℕ) → r ≡ hop (table es) w (i - 1 + 1) → Ends (plan sig ts (set es (i - 1) r) ss) (i - 1)
   turn_ends r q =
-      subst (λ x. Ends (plan sig ts (set es (i - 1) x) ss) (i - 1)) (sym (q ∙ ap₂ (λ l n. hop (table l) n (i - 1 + 1)) passed wide))
+      subst (λ x. Ends (plan sig ts (set es (i - 1) x) ss) (i - 1)) (sym (q ∙ ap (λ n. hop (table es) n (i - 1 + 1)) wide))
       (ends_more sig ts es ss (i - 1) whole ends_back (omega arith) long)
 
 pub numbered_at : (n : ℕ) (ts : List Item) (i v : ℕ) → Numbered n ts → get_or ts i (Atom 0) ≡ Variable v → v < n
@@ -130,3 +128,37 @@ structure_run p ends i f lt is =
     let q = subst (λ k. Run p.after p.size (width p.sig k) (suc i) (p.after i)) is r in
     subst (λ j. Run p.after p.size (arity_at p.sig f) j (hop p.after (arity_at p.sig f) j)) (sym (add-one i))
     (subst (λ m. Run p.after p.size (arity_at p.sig f) (suc i) m) (run_hop p.after p.size (arity_at p.sig f) (suc i) (p.after i) q) q)
+
+-- what stands at a place
+module _ (ps : List Place) (i : ℕ) (d : Place) (lt : i < length ps) where
+  pub item_at : get_or (items_of ps) i (Atom 0) ≡ (get_or ps i d).item
+  item_at = get_or-map (λ p. p.item) ps i d (Atom 0) lt
+
+  pub after_at : table (ends_of ps) i ≡ (get_or ps i d).after
+  after_at = get_or-map (λ p. p.after) ps i d 0 lt
+
+  pub slot_at : table (slots_of ps) i ≡ (get_or ps i d).slot
+  slot_at = get_or-map (λ p. p.slot) ps i d 0 lt
+
+pub places_long : (ps : List Place) → length (items_of ps) ≡ length ps
+places_long ps = length-map ps (λ p. p.item)
+
+-- one place more
+pub places_more : (ps : List Place) (p : Place) → (items_of (ps ++ p ∷ []) ≡ items_of ps ++ p.item ∷ []) × (slots_of (ps ++ p ∷ []) ≡ slots_of ps ++ p.slot ∷ [])
+places_more ps p = (map-append (λ p. p.item) ps (p ∷ []), map-append (λ p. p.slot) ps (p ∷ []))
+
+pub slots_more : (vars : ℕ) (ts : List Item) (ss : List ℕ) (i y : ℕ) → length ss ≡ i → y ≡ vars + structures (take i ts)
+    → ((k : ℕ) → k < i → get_or ss k 0 ≡ vars + structures (take k ts)) → (k : ℕ) → k < i + 1 → get_or (ss ++ y ∷ []) k 0 ≡ vars + structures (take k ts)
+slots_more vars ts ss i y long is was k below =
+    elim (ℕ_discrete k i) [
+      | yes q ↦ ap (λ x. get_or (ss ++ y ∷ []) x 0) (q ∙ sym long) ∙ get_or-append_seam ss y [] 0 ∙ is ∙ ap (λ x. vars + structures (take x ts)) (sym q)
+      | no ne ↦ get_or_append_left ss (y ∷ []) 0 k (omega arith) ∙ was k (omega arith)
+    ]
+
+-- a place, as it is laid out
+module _ (l : Flat) (i : ℕ) (lt : i < length l.places.now) where
+  pub laid_within : i < (laid l).size
+  laid_within = subst (λ n. i < n) (sym (places_long l.places.now)) lt
+
+  pub laid_item : (d : Place) (k : Item) → (get_or l.places.now i d).item ≡ k → (laid l).tok i ≡ k
+  laid_item d k is = item_at l.places.now i d lt ∙ is

@@ -14,7 +14,7 @@ use Rattle.compiler.specs.Lawful.{Fair, Fairs, Lawfuls}
 use Rattle.code.specs.Words.{encode, decode}
 use Rattle.code.specs.declared.instructions.Operand.{Operand}
 use Rattle.code.specs.declared.instructions.Instruction.{Instruction}
-use Rattle.compiler.specs.declared.rows.Role.{Role}
+use Rattle.compiler.specs.Rows.{Role}
 
 -- in front of any others, from one call to the next, the words say X and leave the goals G
 pub record Emits (sig : Signature) (words : List Instruction) (X : Terming → Terming → Type 0) (G : Terming → Terms ℕ) : Type 0 where

@@ -6,7 +6,6 @@ pub mod Order
 pub mod Rows
 pub mod Scripts
 pub mod Lawful
-pub mod Output
 pub mod Emits
 pub mod Lines
 pub mod Steps

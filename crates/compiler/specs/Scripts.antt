@@ -5,7 +5,7 @@ use Rattle.compiler.specs.Rows.{row}
 use Rattle.code.specs.declared.instructions.Operand.{Operand}
 use Rattle.code.specs.declared.instructions.Instruction.{Instruction}
 use Rattle.code.specs.declared.instructions.Instruction.TheVariants.{Allocate, GetStructure, PutStructure, Call, Proceed}
-use Rattle.compiler.specs.declared.rows.Role.TheVariants.{Gets, Unifies, Puts, Sets}
+use Rattle.compiler.specs.Rows.{Gets, Unifies, Puts, Sets}
 
 -- How far a clause has come: the start and the arguments of its head, of which there are n, their structures, between goals, in a goal, the end.
 pub data Phase : Type 0 where

@@ -1,6 +1,6 @@
 // What compiling a clause answers.
 
-// The row of a clause, its predicate and its key, and the place after its code.
+// The row of a clause, its predicate and its key as an image's row has it, and the place after its code.
 #[derive(Clone, Copy)]
 pub struct Compiled {
     pub predicate: u16,

@@ -2,11 +2,18 @@
 use crate::items::Item;
 use symbol_table::SymbolTable;
 
-// The items, the place after each one's term, and the slot of each structure.
+// An item, the place after its term, and its slot if it is a structure.
+#[derive(Clone, Copy, Default)]
+pub(crate) struct Place {
+    pub(crate) item: Item,
+    pub(crate) after: usize,
+    pub(crate) slot: u8,
+}
+
+// The items by their places. That these are right for the slots of a draft is asked by each method: it is said of the two, and one value of
+// both would have to say at each step that the places stay.
 #[derive(Clone, Copy)]
 pub(crate) struct Flat<'a> {
     pub(crate) symbols: &'a SymbolTable,
-    pub(crate) items: &'a [Item],
-    pub(crate) after: &'a [usize],
-    pub(crate) slots: &'a [u8],
+    pub(crate) places: &'a [Place],
 }

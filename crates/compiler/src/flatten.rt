@@ -1,32 +1,22 @@
 // From a line's tokens to the items of a clause.
-ghost use Rattle.std.specs.Prelude.{◌≡◌, ℕ, ◌+◌, ◌<◌, ◌≤◌, List, [], ◌++◌, length, take};
-ghost use Rattle.horn.specs.Clauses.{Variable as ClauseVariable, is_blank};
-ghost use Rattle.horn.specs.Notation.{arity};
+ghost use Rattle.std.specs.Prelude.{◌≡◌, ◌+◌, ◌<◌, ◌≤◌, List, [], length};
+ghost use Rattle.horn.specs.Clauses.{Variable as ClauseVariable};
 ghost use Rattle.lines.specs.Tokens.{word};
 ghost use Rattle.lines.specs.Said.{words_left};
-ghost use Rattle.symbol_table.specs.Numbers.{number_in, Knows, Covers, names_of, known_variable, number_of, noted, noted_by, Shorts, Short};
-ghost use Rattle.compiler.specs.Flatten.{item_for, predicate_for};
-ghost use Rattle.compiler.specs.Flatten.{items as items_of, predicates as predicates_of};
-ghost use Rattle.symbol_table.specs.Numbers.{variables_after};
+ghost use Rattle.symbol_table.specs.Numbers.{Knows, Covers, names_of, noted_by, Shorts, Short, variables_after};
+ghost use Rattle.compiler.specs.Flatten.{item_for, predicate_for, items as items_of, predicates as predicates_of};
 ghost use Rattle.symbol_table.specs.Tables.{signature};
 
-use crate::items::Item;
+use crate::items::{ITEM_LIMIT, Item};
+use arrayvec::ArrayVec;
+use code::CALL_LIMIT;
 use lines::{Fields, Token};
 use symbol_table::{SymbolTable, symbol_number, variable_number};
 
-// How many terms follow a token as its own.
-fn arity_of(token: Token<'_>) -> usize
-    ensures value { result ≡ arity (word token.entry) }
-    ensures small { result < 256 }
-{
-    match token {
-        Token::Name(_) => 0,
-        Token::Structure(_, n) => n as usize,
-        Token::Variable(_) => 0,
-    }
-}
+// The predicates of a head and its goals, at most.
+const PREDICATE_LIMIT: usize = CALL_LIMIT + 1;
 
-// The predicate of a head or goal.
+// The predicate of a head or goal; 0 for a variable, which an accepted line does not have there: but that is known of the whole line, and not of one token.
 fn predicate_of(symbols: &SymbolTable, token: Token<'_>) -> u16
     requires { Knows (signature symbols.now) (word token) }
     ensures { result ≡ predicate_for (signature symbols.now) (word token.entry) }
@@ -54,40 +44,40 @@ fn item_of(symbols: &SymbolTable, variables: &mut SymbolTable, token: Token<'_>)
     }
 }
 
-// Finds the predicates of the head and the goals, and the items of their arguments, and answers how many of each there are. The variables
-// are noted in turn.
-pub(crate) fn flatten(
-    symbols: &SymbolTable,
-    body: Fields<'_>,
-    variables: &mut SymbolTable,
-    predicates: &mut [u16],
-    items: &mut [Item],
-) -> (usize, usize)
-    requires fresh { signature variables.old ≡ [] }
+// A clause by numbers: the predicates of its head and goals, the items of their arguments, and how many variables there are.
+#[derive(Drop)]
+pub(crate) struct Flattened {
+    pub(crate) predicates: ArrayVec<u16, PREDICATE_LIMIT>,
+    pub(crate) items: ArrayVec<Item, ITEM_LIMIT>,
+    pub(crate) variables: u8,
+}
+
+// Finds the predicates of the head and the goals, and the items of their arguments. The variables are numbered in turn.
+pub(crate) fn flatten(symbols: &SymbolTable, mut body: Fields<'_>) -> Flattened
     requires covered { Covers (signature symbols.now) (words_left body) }
     requires short { Shorts (words_left body) }
-    requires goals { length (predicates_of (signature symbols.now) 0 (words_left body)) ≤ length predicates.old }
-    requires arguments { length (items_of (signature symbols.now) [] 0 (words_left body)) ≤ length items.old }
-    requires few { length items.old ≤ 128 }
-    ensures predicates { take result.0 predicates.new ≡ predicates_of (signature symbols.now) 0 (words_left body.entry) }
-    ensures items { take result.1 items.new ≡ items_of (signature symbols.now) [] 0 (words_left body.entry) }
-    ensures variables { signature variables.new ≡ names_of (variables_after [] 0 (words_left body.entry)) }
-    ensures within { (result.0 ≤ length predicates.new) × (result.1 ≤ length items.new) }
+    requires goals { length (predicates_of (signature symbols.now) 0 (words_left body)) ≤ PREDICATE_LIMIT }
+    requires arguments { length (items_of (signature symbols.now) [] 0 (words_left body)) ≤ ITEM_LIMIT }
+    ensures predicates { result.predicates.items ≡ predicates_of (signature symbols.now) 0 (words_left body.entry) }
+    ensures items { result.items.items ≡ items_of (signature symbols.now) [] 0 (words_left body.entry) }
+    ensures variables { result.variables ≡ length (variables_after [] 0 (words_left body.entry)) }
 {
-    let mut left = body;
+    let mut variables = SymbolTable::new();
+    let mut predicates = ArrayVec::new();
+    let mut items = ArrayVec::new();
     let mut need: usize = 0;
-    let mut p: usize = 0;
-    let mut n: usize = 0;
-    while let Some(token) = left.next_token() {
+    while let Some(token) = body.next_token() {
         if need == 0 {
-            predicates[p] = predicate_of(symbols, token);
-            p += 1;
-            need = arity_of(token);
+            predicates.push(predicate_of(symbols, token));
+            need = token.arity();
         } else {
-            items[n] = item_of(symbols, variables, token);
-            n += 1;
-            need = arity_of(token) + (need - 1);
+            items.push(item_of(symbols, &mut variables, token));
+            need = token.arity() + (need - 1);
         }
     }
-    (p, n)
+    Flattened {
+        predicates,
+        items,
+        variables: variables.len() as u8,
+    }
 }

@@ -4,11 +4,11 @@
 mod body;
 mod compile;
 mod compiled;
+mod draft;
 mod flat;
 mod flatten;
 mod head;
 mod items;
-mod output;
 mod places;
 mod rows;
 mod slots;

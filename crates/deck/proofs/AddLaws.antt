@@ -1,24 +1,25 @@
 -- What adding a line gives.
-use Rattle.std.proofs.Common.{◌≡◌, ℕ, ◌+◌, ◌*◌, ◌<◌, ◌≤◌, cond, ltb, ◌≢◌, List, [], ◌∷◌, ◌++◌, length, get_or, take, drop, set, Some, None, Ok, Err, sym, refl, ap, ◌∙◌, subst, ap₂, add-one, arith, length-append, get_or-set_other, get_or-set_same, take_at}
-use Rattle.std.proofs.lemmas.Bool.{lt-ltb, le-ltb}
+use Rattle.std.proofs.Common.{take, take_at, true, ◌≡◌, ℕ, ◌+◌, ◌<◌, ◌≤◌, List, [], length, Ok, Err, sym, refl, ap, ◌∙◌, subst, ap₂, arith, length-append}
+use Rattle.std.specs.Prelude.{Result, is_err}
+use Rattle.std.proofs.lemmas.List.{length-map}
+use Rattle.std.proofs.lemmas.Bool.Decides.{nat_tests}
 use Rattle.horn.specs.Terms.{Name, Term, Terms, var, node, nil, cons, count}
 use Rattle.horn.specs.Clauses.{Clause, Written, blanks, apart, aparts}
 use Rattle.horn.specs.Weights.{own, weigh, weighs, under, load, clause_weight}
 use Rattle.horn.specs.Notation.{wordss}
 use Rattle.horn.proofs.Blanks.{written_aparts}
 use Rattle.lines.specs.declared.kind.Kind.TheVariants.{Clause as ClauseLine}
-use Rattle.lines.specs.declared.faults.LineFault.{LineFault}
-use Rattle.lines.specs.declared.faults.CallFault.TheVariants.{Line, Limit}
-use Rattle.lines.specs.Lines.{then}
+use Rattle.lines.specs.declared.faults.Area.TheVariants.{Symbols, CodeWords}
+use Rattle.lines.specs.declared.faults.CallFault.TheVariants.{Limit}
 use Rattle.lines.specs.Grammar.{Proper}
 use Rattle.lines.specs.Clauses.{clause_from, read_clause, SpellsClause, OneReading}
-use Rattle.symbol_table.specs.Symbols.{Signature}
 use Rattle.symbol_table.specs.Numbers.{note_words}
-use Rattle.symbol_table.specs.Tables.{up_to}
-use Rattle.symbol_table.proofs.NameLaws.{kept_before, up_to_same}
+use Rattle.symbol_table.specs.Symbols.{Signature}
 use Rattle.symbol_table.specs.Noting.{Begins}
-use Rattle.deck.specs.Decks.{Contents, words_in, extended, passed, within, adding}
-use Rattle.deck.specs.Held.{line_in}
+use Rattle.lines.specs.declared.faults.CallFault.{CallFault}
+use Rattle.deck.specs.declared.state.Deck.{Deck}
+use Rattle.deck.specs.Held.{contents}
+use Rattle.deck.specs.Decks.{reply, after, Contents, words_in, extended, adding}
 
 -- a `_` told apart weighs the same
 own_apart : (n : ℕ) (ts : Terms Name) → own (aparts n ts) ≡ own ts
@@ -65,51 +66,29 @@ spelt line (cons h gs) some one =
       short = (let r = ((one c).0 refl).reading in omega (arith, r.proper.short, ap length r.spelling));
     }
 
--- the replies
-module _ (d : Contents) (line : List ℕ) where
-  pub adding_fault : (e : LineFault) → Err e ≡ read_clause line → adding d line ≡ Err (Line e)
-  adding_fault e h = ap (λ r. then Line r (λ c. within (extended d line c) (passed (extended d line c)))) (sym h)
+-- the replies to a line that spells the clause c
+module _ (d : Contents) (line : List ℕ) (c : Clause) (h : Ok c ≡ read_clause line) (lines : length d.lines < 256) where
+  pub adding_2 : 256 < length (note_words d.symbols (words_in c)) → adding d line ≡ Err (Limit Symbols)
+  adding_2 l = rw (← h) (grind (arith, nat_tests, length-append))
 
-  module _ (c : Clause) (h : Ok c ≡ read_clause line) where
-    adding_clause : adding d line ≡ within (extended d line c) (passed (extended d line c))
-    adding_clause = ap (λ r. then Line r (λ c. within (extended d line c) (passed (extended d line c)))) (sym h)
+  pub adding_3 : length (note_words d.symbols (words_in c)) ≤ 256 → 8192 < d.words + (clause_weight c + 2) → adding d line ≡ Err (Limit CodeWords)
+  adding_3 s l = rw (← h) (grind (arith, nat_tests, length-append))
 
-    pub adding_1 : length d.lines ≡ 256 → adding d line ≡ Err (Limit 1)
-    adding_1 e =
-        adding_clause ∙ ap (within (extended d line c)) (ap (λ b. cond b (Some 1) (cond (ltb 256 (length (extended d line c).symbols)) (Some 2) (cond (ltb 8192 (extended d line c).words) (Some 3) None)))
-        (lt-ltb 256 (length (d.lines ++ line ∷ [])) (omega (arith, length-append d.lines (line ∷ [])))))
+  pub adding_ok : length (note_words d.symbols (words_in c)) ≤ 256 → d.words + (clause_weight c + 2) ≤ 8192 → adding d line ≡ Ok (extended d line c)
+  adding_ok s l = rw (← h) (grind (arith, nat_tests, length-append))
 
-    module _ (lines : length d.lines < 256) where
-      after_1 : passed (extended d line c) ≡ cond (ltb 256 (length (extended d line c).symbols)) (Some 2) (cond (ltb 8192 (extended d line c).words) (Some 3) None)
-      after_1 =
-          ap (λ b. cond b (Some 1) (cond (ltb 256 (length (extended d line c).symbols)) (Some 2) (cond (ltb 8192 (extended d line c).words) (Some 3) None)))
-          (le-ltb 256 (length (d.lines ++ line ∷ [])) (omega (arith, length-append d.lines (line ∷ []))))
+pub lines_long : (d : Deck) → length (contents d).lines ≡ length d.lines.items
+lines_long d = simp length-map
 
-      pub adding_2 : 256 < length (note_words d.symbols (words_in c)) → adding d line ≡ Err (Limit 2)
-      adding_2 l =
-          adding_clause ∙ ap (within (extended d line c)) (after_1 ∙ ap (λ b. cond b (Some 2) (cond (ltb 8192 (extended d line c).words) (Some 3) None)) (lt-ltb 256 (length (note_words d.symbols (words_in c))) l))
-
-      module _ (symbols : length (note_words d.symbols (words_in c)) ≤ 256) where
-        after_2 : passed (extended d line c) ≡ cond (ltb 8192 (extended d line c).words) (Some 3) None
-        after_2 = after_1 ∙ ap (λ b. cond b (Some 2) (cond (ltb 8192 (extended d line c).words) (Some 3) None)) (le-ltb 256 (length (note_words d.symbols (words_in c))) symbols)
-
-        pub adding_3 : 8192 < d.words + (clause_weight c + 2) → adding d line ≡ Err (Limit 3)
-        adding_3 l = adding_clause ∙ ap (within (extended d line c)) (after_2 ∙ ap (λ b. cond b (Some 3) None) (lt-ltb 8192 (d.words + (clause_weight c + 2)) l))
-
-        pub adding_ok : d.words + (clause_weight c + 2) ≤ 8192 → adding d line ≡ Ok (extended d line c)
-        adding_ok l = adding_clause ∙ ap (within (extended d line c)) (after_2 ∙ ap (λ b. cond b (Some 3) None) (le-ltb 8192 (d.words + (clause_weight c + 2)) l))
+-- what a refusal leaves
+pub refused : (d : Contents) (r : Result Contents CallFault) (answer : Result (Unit {0}) CallFault) → answer ≡ reply r tt → is_err answer ≡ true → after d r ≡ d
+refused d (Ok e) answer p q = cc
+refused d (Err e) answer p q = refl
 
 -- the symbols as they were
 pub begins_take : {a b : Signature} (n : ℕ) → Begins a b → n ≡ length a → take n b ≡ a
 begins_take {a} n p e = ap (take n) p.is ∙ take_at a p.more n (sym e)
 
--- one line more
-pub line_more : (bytes bytes' lens : List ℕ) (k : ℕ) (line : List ℕ) → k < length lens → take (512 * k) bytes' ≡ take (512 * k) bytes → take (length line) (drop (512 * k) bytes') ≡ line → ((j : ℕ) → get_or lens j 0 ≤ 512)
-    → up_to (k + 1) (line_in bytes' (set lens k (length line))) ≡ up_to k (line_in bytes lens) ++ line ∷ []
-line_more bytes bytes' lens k line lk kept new short =
-    ap (λ n. up_to n (line_in bytes' (set lens k (length line)))) (add-one k)
-    ∙ ap₂ (λ l x. l ++ x ∷ [])
-    (up_to_same k (line_in bytes' (set lens k (length line))) (line_in bytes lens) (λ j lt.
-    (let ne : j ≢ k = λ q. omega arith in
-    ap (λ m. take m (drop (512 * j) bytes')) (get_or-set_other lens k j (length line) 0 ne) ∙ kept_before bytes' bytes (512 * k) (512 * j) (get_or lens j 0) kept (omega (arith, short j)))))
-    (ap (λ m. take m (drop (512 * k) bytes')) (get_or-set_same lens k (length line) 0 lk) ∙ new)
+-- contents with the same parts
+pub holding : (d e : Contents) → d.lines ≡ e.lines → d.symbols ≡ e.symbols → d.words ≡ e.words → d ≡ e
+holding d e p q r = rw (p, q, r) refl

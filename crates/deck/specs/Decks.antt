@@ -4,6 +4,8 @@ use Rattle.horn.specs.Terms.{cons}
 use Rattle.horn.specs.Clauses.{Clause, written}
 use Rattle.horn.specs.Weights.{clause_weight}
 use Rattle.horn.specs.Notation.{Word, wordss}
+use Rattle.lines.specs.declared.faults.Area.{Area}
+use Rattle.lines.specs.declared.faults.Area.TheVariants.{Clauses, Symbols, CodeWords}
 use Rattle.lines.specs.declared.faults.CallFault.{CallFault}
 use Rattle.lines.specs.declared.faults.CallFault.TheVariants.{Line, Limit}
 use Rattle.lines.specs.Lines.{then}
@@ -28,15 +30,15 @@ extended d line c = record {
   words = d.words + (clause_weight c + 2);
 }
 
--- the lowest of clauses, symbols and code words that pass their limit
-abbrev pub passed : Contents → Option ℕ
+-- the first of clauses, symbols and code words that pass their limit
+abbrev pub passed : Contents → Option Area
 passed d =
-    cond (nat_lt 256 (length d.lines)) (Some 1)
-    (cond (nat_lt 256 (length d.symbols)) (Some 2)
-    (cond (nat_lt 8192 d.words) (Some 3) None))
+    cond (nat_lt 256 (length d.lines)) (Some Clauses)
+    (cond (nat_lt 256 (length d.symbols)) (Some Symbols)
+    (cond (nat_lt 8192 d.words) (Some CodeWords) None))
 
-abbrev pub within : Contents → Option ℕ → Result Contents CallFault
-within d (Some place) = Err (Limit place)
+abbrev pub within : Contents → Option Area → Result Contents CallFault
+within d (Some area) = Err (Limit area)
 within d None = Ok d
 
 -- what adding a line gives: the contents with it, or the fault

@@ -1,38 +1,21 @@
 // Taking lines into the deck.
-ghost use Rattle.std.specs.Prelude.{◌≡◌, ◌+◌, ◌≤◌, [], length, take, drop};
+ghost use Rattle.std.specs.Prelude.{◌≡◌, [], OnOk, OnErr};
+ghost use Rattle.symbol_table.specs.Noting.{Begins};
 ghost use Rattle.deck.specs.Decks.{adding, reply, after};
 ghost use Rattle.deck.specs.Held.{contents};
 
 use crate::state::Deck;
-use lines::{CallFault, read_clause};
+use arrayvec::ArrayVec;
+use code::CODE_LIMIT;
+use lines::{Area, CallFault, read_clause};
 use symbol_table::{SymbolTable, note_symbols};
-
-// The clauses and the code words of a deck, at most.
-const CLAUSE_LIMIT: usize = 256;
-
-const WORD_LIMIT: usize = 8192;
-
-const LINE_BYTES: usize = 512;
-
-// Writes the line at `at`.
-fn write_line(out: &mut [u8], at: usize, line: &[u8])
-    requires { at + length line.now ≤ length out.old }
-    ensures same { take at out.new ≡ take at out.old }
-    ensures line { take (length line.now) (drop at out.new) ≡ line.now }
-{
-    for i in 0..line.len() {
-        out[at + i] = line[i];
-    }
-}
 
 impl Deck {
     pub fn new() -> Deck
         ensures { contents result ≡ record { lines = []; symbols = []; words = 0 } }
     {
         Deck {
-            bytes: [0; CLAUSE_LIMIT * LINE_BYTES],
-            lens: [0; CLAUSE_LIMIT],
-            count: 0,
+            lines: ArrayVec::new(),
             symbols: SymbolTable::new(),
             words: 0,
         }
@@ -43,24 +26,32 @@ impl Deck {
         ensures value { result ≡ reply (adding (contents self.old) line.now) tt }
         ensures after { contents self.new ≡ after (contents self.old) (adding (contents self.old) line.now) }
     {
+        let symbols = self.symbols.len();
+        let added = self.take_line(line);
+        if added.is_err() {
+            self.symbols.truncate(symbols);
+        }
+        added
+    }
+
+    // The same, but of a line that is refused some symbols may stay.
+    fn take_line(&mut self, line: &[u8]) -> Result<(), CallFault>
+        ensures value { result ≡ reply (adding (contents self.old) line.now) tt }
+        ensures taken { OnOk result (contents self.new ≡ after (contents self.old) (adding (contents self.old) line.now)) }
+        ensures lines { OnErr result ((contents self.new).lines ≡ (contents self.old).lines) }
+        ensures symbols { OnErr result (Begins (contents self.old).symbols (contents self.new).symbols) }
+        ensures words { OnErr result ((contents self.new).words ≡ (contents self.old).words) }
+    {
         let clause = read_clause(line)?;
-        let k = self.count;
-        if k == CLAUSE_LIMIT {
-            return Err(CallFault::Limit { place: 1 });
+        if self.lines.is_full() {
+            return Err(CallFault::Limit(Area::Clauses));
         }
-        let len = self.symbols.len();
-        if !note_symbols(&mut self.symbols, clause.body) {
-            self.symbols.truncate(len);
-            return Err(CallFault::Limit { place: 2 });
-        }
+        note_symbols(&mut self.symbols, clause.body).map_err(|_| CallFault::Limit(Area::Symbols))?;
         let words = self.words + (clause.weight + 2);
-        if words > WORD_LIMIT {
-            self.symbols.truncate(len);
-            return Err(CallFault::Limit { place: 3 });
+        if words > CODE_LIMIT {
+            return Err(CallFault::Limit(Area::CodeWords));
         }
-        write_line(&mut self.bytes, LINE_BYTES * k, line);
-        self.lens[k] = line.len() as u16;
-        self.count = k + 1;
+        self.lines.push(ArrayVec::try_from(line).unwrap());
         self.words = words;
         Ok(())
     }

@@ -3,6 +3,8 @@ use Rattle.std.proofs.Common.{◌≡◌, ℕ, zero, suc, ◌+◌, ◌<◌, ◌�
 use Rattle.std.proofs.lemmas.Bool.{eq-eqb}
 use Rattle.horn.specs.Terms.{Term, var, node, cons}
 use Rattle.heap.specs.Solutions.{span}
+use Rattle.code.specs.declared.instructions.Operand.{Operand}
+use Rattle.code.specs.declared.instructions.Operand.TheVariants.{Fresh, Known, Constant}
 use Rattle.code.specs.declared.instructions.Instruction.{Instruction}
 use Rattle.code.specs.declared.instructions.Instruction.TheVariants.{Allocate, Get, GetStructure, Unify, Put, PutStructure, Set, Call, Proceed}
 use Rattle.code.specs.Meaning.{Symbols, Terming, given, part, parts, update, Says, goals, span as term_span}
@@ -15,16 +17,20 @@ pub span_is : (α : Terming) (i n : ℕ) → term_span α i n ≡ span α i n
 span_is α i zero = refl
 span_is α i (suc n) = ap (cons (α i)) (span_is α (suc i) n)
 
+-- an argument of a structure is a unify or a set instruction
+piece_cases : (P : Instruction → Type 0) → ((o : Operand) → P (Unify o)) → ((o : Operand) → P (Set o)) → (w : Instruction) → Piece w → P w
+piece_cases P u v (Unify o) p = u o
+piece_cases P u v (Set o) p = v o
+piece_cases P u v (Allocate k) p = absurd p
+piece_cases P u v (Get o a) p = absurd p
+piece_cases P u v (GetStructure y f) p = absurd p
+piece_cases P u v (Put o a) p = absurd p
+piece_cases P u v (PutStructure y f) p = absurd p
+piece_cases P u v (Call q) p = absurd p
+piece_cases P u v Proceed p = absurd p
+
 piece_part : (s : Symbols) (w : Instruction) (σ : Terming) → Piece w → part s w σ ≡ given s (operand_of w) σ
-piece_part s (Unify o) σ p = refl
-piece_part s (Set o) σ p = refl
-piece_part s (Allocate k) σ p = absurd p
-piece_part s (Get o a) σ p = absurd p
-piece_part s (GetStructure y f) σ p = absurd p
-piece_part s (Put o a) σ p = absurd p
-piece_part s (PutStructure y f) σ p = absurd p
-piece_part s (Call q) σ p = absurd p
-piece_part s Proceed σ p = absurd p
+piece_part s w σ p = piece_cases (λ w. part s w σ ≡ given s (operand_of w) σ) (λ o. refl) (λ o. refl) w p
 
 pub parts_span : (s : Symbols) (σ τ : Terming) (n : ℕ) (code : List Instruction) (i : ℕ) → Pieces n code
     → ((j : ℕ) → j < n → τ (i + j) ≡ given s (operand_of (get_or code j Proceed)) σ) → parts s n code σ ≡ span τ i n
@@ -41,57 +47,23 @@ pieces_long (suc n) (w ∷ code) p = omega (arith, pieces_long n code p.1)
 
 -- the words of a structure say nothing by themselves
 module _ (s : Symbols) where
-  pub says_drop : (α σ : Terming) (n : ℕ) (code : List Instruction) → Pieces n code → Says s code α σ → Says s (drop n code) α σ
-  says_drop α σ zero code p h = h
-  says_drop α σ (suc n) [] p h = absurd p
-  says_drop α σ (suc n) (Unify o ∷ code) p h = says_drop α σ n code p.1 h
-  says_drop α σ (suc n) (Set o ∷ code) p h = says_drop α σ n code p.1 h
-  says_drop α σ (suc n) (Allocate k ∷ code) p h = absurd p.0
-  says_drop α σ (suc n) (Get o a ∷ code) p h = absurd p.0
-  says_drop α σ (suc n) (GetStructure y f ∷ code) p h = absurd p.0
-  says_drop α σ (suc n) (Put o a ∷ code) p h = absurd p.0
-  says_drop α σ (suc n) (PutStructure y f ∷ code) p h = absurd p.0
-  says_drop α σ (suc n) (Call q ∷ code) p h = absurd p.0
-  says_drop α σ (suc n) (Proceed ∷ code) p h = absurd p.0
-
-  pub says_undrop : (α σ : Terming) (n : ℕ) (code : List Instruction) → Pieces n code → Says s (drop n code) α σ → Says s code α σ
-  says_undrop α σ zero code p h = h
-  says_undrop α σ (suc n) [] p h = absurd p
-  says_undrop α σ (suc n) (Unify o ∷ code) p h = says_undrop α σ n code p.1 h
-  says_undrop α σ (suc n) (Set o ∷ code) p h = says_undrop α σ n code p.1 h
-  says_undrop α σ (suc n) (Allocate k ∷ code) p h = absurd p.0
-  says_undrop α σ (suc n) (Get o a ∷ code) p h = absurd p.0
-  says_undrop α σ (suc n) (GetStructure y f ∷ code) p h = absurd p.0
-  says_undrop α σ (suc n) (Put o a ∷ code) p h = absurd p.0
-  says_undrop α σ (suc n) (PutStructure y f ∷ code) p h = absurd p.0
-  says_undrop α σ (suc n) (Call q ∷ code) p h = absurd p.0
-  says_undrop α σ (suc n) (Proceed ∷ code) p h = absurd p.0
+  pub says_drop : (α σ : Terming) (n : ℕ) (code : List Instruction) → Pieces n code → (Says s code α σ → Says s (drop n code) α σ) × (Says s (drop n code) α σ → Says s code α σ)
+  says_drop α σ zero code p = ((λ h. h), (λ h. h))
+  says_drop α σ (suc n) [] p = absurd p
+  says_drop α σ (suc n) (w ∷ code) p =
+      let one = piece_cases (λ w. (Says s (w ∷ code) α σ → Says s code α σ) × (Says s code α σ → Says s (w ∷ code) α σ)) (λ o. ((λ h. h), (λ h. h))) (λ o. ((λ h. h), (λ h. h))) w p.0 in
+      let r = says_drop α σ n code p.1 in
+      ((λ h. r.0 (one.0 h)), (λ h. one.1 (r.1 h)))
 
   pub goals_drop : (σ π : Terming) (n : ℕ) (code : List Instruction) → Pieces n code → goals s code σ π ≡ goals s (drop n code) σ π
   goals_drop σ π zero code p = refl
   goals_drop σ π (suc n) [] p = absurd p
-  goals_drop σ π (suc n) (Unify o ∷ code) p = goals_drop σ π n code p.1
-  goals_drop σ π (suc n) (Set o ∷ code) p = goals_drop σ π n code p.1
-  goals_drop σ π (suc n) (Allocate k ∷ code) p = absurd p.0
-  goals_drop σ π (suc n) (Get o a ∷ code) p = absurd p.0
-  goals_drop σ π (suc n) (GetStructure y f ∷ code) p = absurd p.0
-  goals_drop σ π (suc n) (Put o a ∷ code) p = absurd p.0
-  goals_drop σ π (suc n) (PutStructure y f ∷ code) p = absurd p.0
-  goals_drop σ π (suc n) (Call q ∷ code) p = absurd p.0
-  goals_drop σ π (suc n) (Proceed ∷ code) p = absurd p.0
+  goals_drop σ π (suc n) (w ∷ code) p = piece_cases (λ w. goals s (w ∷ code) σ π ≡ goals s code σ π) (λ o. refl) (λ o. refl) w p.0 ∙ goals_drop σ π n code p.1
 
 -- what is left after them
 module _ (table : List ℕ) (n m r : ℕ) (A : List ℕ) where
   piece_ready : (w : Instruction) (code : List Instruction) → Piece w → Ready table n m r A (w ∷ code) → Takes table m (operand_of w) × Ready table n m r A code
-  piece_ready (Unify o) code p h = h
-  piece_ready (Set o) code p h = h
-  piece_ready (Allocate k) code p h = absurd p
-  piece_ready (Get o a) code p h = absurd p
-  piece_ready (GetStructure y f) code p h = absurd p
-  piece_ready (Put o a) code p h = absurd p
-  piece_ready (PutStructure y f) code p h = absurd p
-  piece_ready (Call q) code p h = absurd p
-  piece_ready Proceed code p h = absurd p
+  piece_ready w code p h = piece_cases (λ w. Ready table n m r A (w ∷ code) → Takes table m (operand_of w) × Ready table n m r A code) (λ o h. h) (λ o h. h) w p h
 
   pub ready_drop : (c : ℕ) (code : List Instruction) → Pieces c code → Ready table n m r A code → Ready table n m r A (drop c code)
   ready_drop zero code p h = h
@@ -104,22 +76,29 @@ module _ (table : List ℕ) (n m r : ℕ) (A : List ℕ) where
   ready_takes (suc c) (w ∷ code) p h zero l = (piece_ready w code p.0 h).0
   ready_takes (suc c) (w ∷ code) p h (suc j) l = ready_takes c code p.1 (piece_ready w code p.0 h).1 j (omega arith)
 
-piece_price : (w : Instruction) → Piece w → (price w ≡ 1) × (leaves w ≡ 0)
-piece_price (Unify o) p = (refl, refl)
-piece_price (Set o) p = (refl, refl)
-piece_price (Allocate k) p = absurd p
-piece_price (Get o a) p = absurd p
-piece_price (GetStructure y f) p = absurd p
-piece_price (Put o a) p = absurd p
-piece_price (PutStructure y f) p = absurd p
-piece_price (Call q) p = absurd p
-piece_price Proceed p = absurd p
+-- more slots do no harm
+takes_more : (table : List ℕ) (m m' : ℕ) → m ≤ m' → (o : Operand) → Takes table m o → Takes table m' o
+takes_more table m m' le (Fresh y) t = omega arith
+takes_more table m m' le (Known y) t = omega arith
+takes_more table m m' le (Constant c) t = t
+
+pub ready_more : (table : List ℕ) (n m m' r : ℕ) → m ≤ m' → (A : List ℕ) (code : List Instruction) → Ready table n m r A code → Ready table n m' r A code
+ready_more table n m m' r le A [] h = tt
+ready_more table n m m' r le A (Get o a ∷ code) h = (h.0, h.1, takes_more table m m' le o h.2, ready_more table n m m' r le A code h.3)
+ready_more table n m m' r le A (GetStructure y f ∷ code) h = (omega (arith, h.0), h.1, h.2, ready_more table n m m' r le A code h.3)
+ready_more table n m m' r le A (PutStructure y f ∷ code) h = (omega (arith, h.0), h.1, h.2, ready_more table n m m' r le A code h.3)
+ready_more table n m m' r le A (Unify o ∷ code) h = (takes_more table m m' le o h.0, ready_more table n m m' r le A code h.1)
+ready_more table n m m' r le A (Set o ∷ code) h = (takes_more table m m' le o h.0, ready_more table n m m' r le A code h.1)
+ready_more table n m m' r le A (Put o a ∷ code) h = (h.0, takes_more table m m' le o h.1, ready_more table n m m' r le (a ∷ A) code h.2)
+ready_more table n m m' r le A (Call p ∷ code) h = (h.0, h.1, h.2, h.3, ready_more table n m m' r le [] code h.4)
+ready_more table n m m' r le A (Allocate k ∷ code) h = ready_more table n m m' r le A code h
+ready_more table n m m' r le A (Proceed ∷ code) h = ready_more table n m m' r le A code h
 
 pub dues_drop : (c : ℕ) (code : List Instruction) → Pieces c code → (dues code ≡ c + dues (drop c code)) × (calls code ≡ calls (drop c code))
 dues_drop zero code p = (omega arith, refl)
 dues_drop (suc c) [] p = absurd p
 dues_drop (suc c) (w ∷ code) p =
-    let e = piece_price w p.0 in
+    let e = piece_cases (λ w. (price w ≡ 1) × (leaves w ≡ 0)) (λ o. (refl, refl)) (λ o. (refl, refl)) w p.0 in
     let r = dues_drop c code p.1 in
     (omega (arith, e.0, r.0), omega (arith, e.1, r.1))
 

@@ -1,6 +1,6 @@
 -- Rows of cells, one for each operand, and structures.
-use Rattle.std.proofs.Common.{◌≡◌, ℕ, ◌+◌, ◌<◌, List, [], ◌∷◌, ◌++◌, length, get_or, Some, None, sym, ap, ◌∙◌, subst, ap₂, arith}
-use native.Mathlib.Decide.{dec_lt}
+use Rattle.std.proofs.Common.{◌≡◌, ℕ, ◌+◌, ◌<◌, List, [], ◌∷◌, ◌++◌, length, get_or, Some, None, sym, ap, ◌∙◌, ap₂, arith}
+use borrow.Author.Count.{below_more}
 use Rattle.horn.specs.Terms.{node}
 use Rattle.heap.specs.Heaps.{Heap, cell}
 use Rattle.heap.specs.Solutions.{Valuation, Sol, Root, span}
@@ -19,10 +19,6 @@ rows_span b n ρ τ h = span_ext ρ τ b 0 n (λ k l. h k l ∙ ap τ (omega ari
 pub span_rows : (b n : ℕ) (ρ τ : Valuation) → span ρ b n ≡ span τ 0 n → (j : ℕ) → j < n → ρ (b + j) ≡ τ j
 span_rows b n ρ τ e j l = span_at ρ τ b 0 n e j l ∙ ap τ (omega arith)
 
--- one more row
-row_more : (P : ℕ → Type 0) (k : ℕ) → ((j : ℕ) → j < k → P j) → P k → (j : ℕ) → j < k + 1 → P j
-row_more P k h p j l = elim (dec_lt j k) [ yes lt ↦ h j lt | no ge ↦ (let e : k ≡ j = omega arith in subst P e p) ]
-
 module _ (table : List ℕ) (op : ℕ → Operand) where
   pub rows_none : (H : Heap) (S : Slots) (b : ℕ) (P : Claim) → Stands table H S → Turned table H S P (Rows b op 0) H S
   rows_none H S b P st = turned_still table H S P (Rows b op 0) st (λ s n ρ σ h f j l. absurd (omega arith))
@@ -33,7 +29,7 @@ module _ (table : List ℕ) (op : ℕ → Operand) where
   rows_made {H} {H₁} {H₂} {S} {S₁} {S₂} k long first second =
       turned_then table Nothing (Rows (length H) op k) Nothing Nothing first (λ s n ρ σ d. tt) (λ s n ρ τ σ same h f e d. tt)
       (Is (op k) (length H₁)) (Rows (length H) op (k + 1)) second
-      (λ s n ρ σ h f e d. row_more (λ j. ρ (length H + j) ≡ given s (op j) σ) k e (ap ρ (sym long) ∙ d))
+      (λ s n ρ σ h f e d. below_more (λ j. ρ (length H + j) ≡ given s (op j) σ) k e (ap ρ (sym long) ∙ d))
 
   -- cells that are there are met by the operands
   module _ {H H₁ : Heap} {S S₁ : Slots} (b k : ℕ) (within : b + k < length H) (first : Turned table H S (Rows b op k) (Rows b op k) H₁ S₁) where
@@ -42,7 +38,7 @@ module _ (table : List ℕ) (op : ℕ → Operand) where
         turned_then table (Rows b op k) (Rows b op k) (Is (op k) (b + k)) (Rows b op (k + 1)) first
         (λ s n ρ σ d j l. d j (omega arith)) (λ s n ρ τ σ same h f e d. sym (same (b + k) within) ∙ d k (omega arith))
         (Is (op k) (b + k)) (Rows b op (k + 1)) second
-        (λ s n ρ σ h f e d. row_more (λ j. ρ (b + j) ≡ given s (op j) σ) k e d)
+        (λ s n ρ σ h f e d. below_more (λ j. ρ (b + j) ≡ given s (op j) σ) k e d)
 
     pub rows_unread : (m : ℕ) → k < m → Unmet table H₁ S₁ (Is (op k) (b + k)) → Unmet table H S (Rows b op m)
     rows_unread m lt un =

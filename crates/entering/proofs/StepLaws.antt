@@ -12,7 +12,7 @@ use Rattle.heap.proofs.SpanLaws.{span_ext, span_at}
 use Rattle.code.specs.declared.instructions.Operand.{Operand}
 use Rattle.code.specs.declared.instructions.Operand.TheVariants.{Fresh}
 use Rattle.code.specs.declared.instructions.Instruction.{Instruction}
-use Rattle.code.specs.declared.instructions.Instruction.TheVariants.{Allocate, Get, Unify, Put, Set, Call, Proceed}
+use Rattle.code.specs.declared.instructions.Instruction.TheVariants.{Get, Put, Call, Proceed}
 use Rattle.code.specs.Meaning.{Symbols, Terming, given, parts, update, Says, goals}
 use Rattle.entering.specs.declared.goal.Goal.{Goal}
 use Rattle.entering.specs.Goals.{worth, vals, Names, Good}
@@ -21,7 +21,7 @@ use Rattle.entering.specs.Turns.{Slots, Fits, Claim, Nothing, Stands, Turned, Un
 use Rattle.entering.specs.Ready.{In, operand_of, Pieces, Ready, dues, calls}
 use Rattle.entering.specs.States.{laid, State, state, Setting, Steps, Stuck, Going, Stepped}
 use Rattle.entering.proofs.TurnLaws.{same_trans, turned_still}
-use Rattle.entering.proofs.ReadyLaws.{span_is, parts_span, says_drop, says_undrop, goals_drop, ready_drop, dues_drop, goals_agree, goals_same}
+use Rattle.entering.proofs.ReadyLaws.{span_is, parts_span, says_drop, goals_drop, ready_drop, dues_drop, goals_agree, goals_same}
 
 pub worth_same : (s : Symbols) (g : Goal) (n : ℕ) (ρ τ : Valuation) → ((k : ℕ) → k < g.arity → g.first + k < n) → Same n ρ τ → worth s ρ g ≡ worth s τ g
 worth_same s g n ρ τ held same = ap (node (s.name g.symbol)) (span_ext ρ τ g.first g.first g.arity (λ k l. same (g.first + k) (held k l)))
@@ -130,32 +130,14 @@ laid_put R s σ o a lt b =
     ]
 
 module _ (k : Setting) (R : List Operand) (G : List Goal) {H : Heap} {S : Slots} (rest : List Instruction) where
-  -- words that do nothing here
-  pub step_allocate : (n : ℕ) → (go : Going k (state H S R G (Allocate n ∷ rest))) → Stepped k (state H S R G (Allocate n ∷ rest)) (state H S R G rest) go
-  step_allocate n go = record {
-    going = going_on k R G (Allocate n ∷ rest) go rest (omega arith) refl go.stands go.ready (omega arith) (omega arith);
-    steps = steps_turned k R G (Allocate n ∷ rest) go Nothing rest (λ s n ρ α σ e h. (tt, h)) Nothing (turned_still k.table H S Nothing Nothing go.stands (λ s n ρ σ h f. tt)) (λ s n ρ α σ e x h. h) (λ s σ π n. refl);
-    paid = omega arith;
-  }
-
-  pub step_proceed : (go : Going k (state H S R G (Proceed ∷ rest))) → Stepped k (state H S R G (Proceed ∷ rest)) (state H S R G rest) go
-  step_proceed go = record {
-    going = going_on k R G (Proceed ∷ rest) go rest (omega arith) refl go.stands go.ready (omega arith) (omega arith);
-    steps = steps_turned k R G (Proceed ∷ rest) go Nothing rest (λ s n ρ α σ e h. (tt, h)) Nothing (turned_still k.table H S Nothing Nothing go.stands (λ s n ρ σ h f. tt)) (λ s n ρ α σ e x h. h) (λ s σ π n. refl);
-    paid = omega arith;
-  }
-
-  pub step_unify : (o : Operand) → (go : Going k (state H S R G (Unify o ∷ rest))) → Stepped k (state H S R G (Unify o ∷ rest)) (state H S R G rest) go
-  step_unify o go = record {
-    going = going_on k R G (Unify o ∷ rest) go rest (omega arith) refl go.stands go.ready.1 (omega arith) (omega arith);
-    steps = steps_turned k R G (Unify o ∷ rest) go Nothing rest (λ s n ρ α σ e h. (tt, h)) Nothing (turned_still k.table H S Nothing Nothing go.stands (λ s n ρ σ h f. tt)) (λ s n ρ α σ e x h. h) (λ s σ π n. refl);
-    paid = omega arith;
-  }
-
-  pub step_set : (o : Operand) → (go : Going k (state H S R G (Set o ∷ rest))) → Stepped k (state H S R G (Set o ∷ rest)) (state H S R G rest) go
-  step_set o go = record {
-    going = going_on k R G (Set o ∷ rest) go rest (omega arith) refl go.stands go.ready.1 (omega arith) (omega arith);
-    steps = steps_turned k R G (Set o ∷ rest) go Nothing rest (λ s n ρ α σ e h. (tt, h)) Nothing (turned_still k.table H S Nothing Nothing go.stands (λ s n ρ σ h f. tt)) (λ s n ρ α σ e x h. h) (λ s σ π n. refl);
+  -- a word that says nothing by itself
+  pub step_passed : (w : Instruction) → ((s : Symbols) (α σ : Terming) → Says s (w ∷ rest) α σ ≡ Says s rest α σ) → ((s : Symbols) (σ π : Terming) → goals s (w ∷ rest) σ π ≡ goals s rest σ π)
+      → (go : Going k (state H S R G (w ∷ rest))) → Ready k.table k.args (length S) (length R) go.put rest → dues rest ≤ dues (w ∷ rest) → calls rest ≤ calls (w ∷ rest)
+      → Stepped k (state H S R G (w ∷ rest)) (state H S R G rest) go
+  step_passed w says leave go ready cost few = record {
+    going = going_on k R G (w ∷ rest) go rest (omega arith) refl go.stands ready (omega arith) few;
+    steps = steps_turned k R G (w ∷ rest) go Nothing rest (λ s n ρ α σ e h. (tt, subst (λ X. X) (says s α σ) h)) Nothing (turned_still k.table H S Nothing Nothing go.stands (λ s n ρ σ h f. tt))
+        (λ s n ρ α σ e x h. subst (λ X. X) (sym (says s α σ)) h) (λ s σ π n. leave s σ π);
     paid = omega arith;
   }
 
@@ -169,9 +151,6 @@ module _ (k : Setting) (R : List Operand) (G : List Goal) {H : Heap} {S : Slots}
 
     get_ask : (s : Symbols) → Names s k.table → (ρ : Valuation) (α σ : Terming) → span α 1 k.args ≡ span ρ k.first k.args → Says s (Get o a ∷ rest) α σ → Is o (k.first + (a - 1)) s ρ σ × Says s rest α σ
     get_ask s n ρ α σ e h = (sym (get_at ρ α e) ∙ h.0, h.1)
-
-    pub get_within : k.first + (a - 1) < length H
-    get_within = go.args_in (a - 1) (let lo : 0 < a = go.ready.0 in let hi : a ≤ k.args = go.ready.1 in omega arith)
 
     pub step_get : {H' : Heap} {S' : Slots} → length S' ≡ length S → length H' ≤ length H + 1
         → Turned k.table H S (Is o (k.first + (a - 1))) (Is o (k.first + (a - 1))) H' S' → Stepped k (state H S R G (Get o a ∷ rest)) (state H' S' R G rest) go
@@ -200,7 +179,7 @@ module _ (k : Setting) (R : List Operand) (G : List Goal) {H : Heap} {S : Slots}
         → SlotIs y f op n s ρ σ × Says s (drop n rest) α σ
     structure_ask s names ρ α σ e h =
         let q = subst (λ X. X) (says s α σ) h in
-        (q.0 ∙ ap (node (s.name f)) (parts_is s names σ), says_drop s α σ n rest pieces q.1)
+        (q.0 ∙ ap (node (s.name f)) (parts_is s names σ), (says_drop s α σ n rest pieces).0 q.1)
 
     pub step_structure : {H' : Heap} {S' : Slots} → length S' ≡ length S → length H' ≤ length H + 1 + n
         → Turned k.table H S (SlotIs y f op n) (SlotIs y f op n) H' S' → Stepped k (state H S R G (w ∷ rest)) (state H' S' R G (drop n rest)) go
@@ -210,7 +189,7 @@ module _ (k : Setting) (R : List Operand) (G : List Goal) {H : Heap} {S : Slots}
         record {
           going = going_on k R G (w ∷ rest) go (drop n rest) t.longer same t.stands (ready_drop k.table k.args (length S) (length R) go.put n rest pieces ready) paid (omega (arith, d.1, none));
           steps = steps_turned k R G (w ∷ rest) go (SlotIs y f op n) (drop n rest) structure_ask (SlotIs y f op n) t
-              (λ s names ρ α σ e x h. subst (λ X. X) (sym (says s α σ)) (x ∙ ap (node (s.name f)) (sym (parts_is s names σ)), says_undrop s α σ n rest pieces h))
+              (λ s names ρ α σ e x h. subst (λ X. X) (sym (says s α σ)) (x ∙ ap (node (s.name f)) (sym (parts_is s names σ)), (says_drop s α σ n rest pieces).1 h))
               (λ s σ π names. leave s σ π ∙ goals_drop s σ π n rest pieces);
           paid = omega arith;
         }

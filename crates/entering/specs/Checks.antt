@@ -5,7 +5,7 @@ use Rattle.code.specs.WellFormed.{Kept, WellFormed}
 abbrev pub Extends : List ℕ → List ℕ → Type 0
 Extends arities table = (f : ℕ) → f < length arities → (f < length table) × (slice_index table f ≡ slice_index arities f)
 
--- the words are a clause of the predicate p
+-- the words are a clause of the predicate p; less is asked of them than `Runnable` of code has, and of a table that may have more symbols
 pub record Runnable (table : List ℕ) (p : ℕ) (words : List ℕ) : Type 0 where
   pub arities : List ℕ
   pub key : ℕ

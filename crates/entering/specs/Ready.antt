@@ -1,4 +1,5 @@
--- What the runner needs of the code that is left, and what cells it may cost.
+-- What the runner needs of the code that is left, and what cells it may cost. `Ready` of code follows the slots that are filled, and knows no table:
+-- here symbols and constants are of the table, and the arguments that were put are counted.
 use Rattle.std.specs.Prelude.{◌≡◌, ℕ, zero, suc, ◌+◌, ◌<◌, ◌≤◌, ◌⊎◌, List, [], ◌∷◌, length, slice_index}
 use Rattle.code.specs.declared.instructions.Operand.{Operand}
 use Rattle.code.specs.declared.instructions.Operand.TheVariants.{Constant}

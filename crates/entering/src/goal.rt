@@ -1,6 +1,6 @@
 // A goal.
 // Its arguments stand in the cells from `first` on.
-#[derive(Clone, Copy)]
+#[derive(Clone, Copy, Default)]
 pub struct Goal {
     pub symbol: u16,
     pub arity: u16,

@@ -4,22 +4,16 @@ ghost use Rattle.entering.specs.Keys.{KeyDenies};
 
 // The theorem that entry goes from path to path: cells that store a path store the longer one once a clause of the goal's symbol is entered; where
 // it is denied, and where there is no such clause, no longer path passes.
-pub fn entry_is_a_step() -> u8
+pub fn entry_is_a_step()
     ensures { PathStep }
-{
-    0
-}
+{}
 
 // The theorem that a path that cells store passes, and succeeds just where no goals are left.
-pub fn stored_path_passes() -> u8
+pub fn stored_path_passes()
     ensures { PathEnd }
-{
-    0
-}
+{}
 
 // The theorem that a clause whose key clashes with the goal's is denied.
-pub fn clashing_key_is_denied() -> u8
+pub fn clashing_key_is_denied()
     ensures { KeyDenies }
-{
-    0
-}
+{}

@@ -1,94 +1,74 @@
 -- From instruction to instruction, and to the end.
-use Rattle.std.proofs.Common.{◌≡◌, ℕ, ◌+◌, ◌<◌, ◌≤◌, List, [], map, length, get_or, take, drop, set, IfSome, Some, None, Option, sym, ap, ◌∙◌, subst, ap₂, arith, get_or-set_other, get_or-set_same, MatchOption}
-use native.Mathlib.Decide.{ℕ_discrete, dec_lt}
-use Rattle.std.proofs.lemmas.List.{drop_all, get_or_past}
+use Rattle.std.proofs.Common.{◌≡◌, ℕ, zero, suc, ◌+◌, ◌≤◌, List, [], map, length, get_or, replicate, None, Option, MatchOption, Result, Ok, Err, MatchResult, sym, refl, subst, arith}
+use Rattle.std.specs.Result.{result_ok}
 use Rattle.heap.specs.Limits.{cell_limit}
 use Rattle.heap.specs.Heaps.{Heap, Closed}
-use Rattle.matching.specs.Trails.{undone}
-use Rattle.matching.specs.declared.trail.Bound.{Bound}
-use Rattle.cells.specs.Growth.{Grew, Saves}
-use Rattle.cells.proofs.GrowthLaws.{grew_none, grew_cells, grew_trail, saves_grew}
 use Rattle.code.specs.Limits.{call_limit}
 use Rattle.code.specs.Words.{decode}
+use Rattle.code.specs.Rules.{opened}
 use Rattle.code.specs.Meaning.{Symbols}
-use Rattle.code.specs.declared.instructions.Operand.{Operand}
 use Rattle.entering.specs.declared.goal.Goal.{Goal}
 use Rattle.entering.specs.Goals.{Names, Typed, Good}
 use Rattle.entering.specs.Entries.{Denied}
-use Rattle.entering.specs.Turns.{Slots}
-use Rattle.entering.specs.Ready.{Ready, dues, calls}
-use Rattle.entering.specs.States.{State, state, Setting, setting, Going, Stuck, Stepped}
+use Rattle.entering.specs.Ready.{Ready}
+use Rattle.entering.specs.Checks.{Runnable}
+use Rattle.entering.specs.States.{State, state, Setting, Going, Stuck}
+use Rattle.entering.proofs.ReadyLaws.{ready_more}
+use Rattle.entering.proofs.CheckLaws.{runnable_ready, runnable_costs}
 use Rattle.entering.proofs.StepLaws.{stepped_none, stepped_trans, stuck_later}
 use Rattle.entering.proofs.EntryLaws.{going_start, entered, denied}
-use Rattle.entry.specs.Runs.{state_at, Advances, Reached, Ended, Leaves}
+use Rattle.entry.specs.declared.steps.Registers.{Registers}
+use Rattle.entry.specs.Runs.{Blank, setting_of, state_of, Reached, Leaves}
 
-pub reached_none : (k : Setting) (m : State) → Reached k 0 m m
-reached_none k m = record { few = omega arith; stepped = stepped_none k m }
+-- what is said of a result, of it as an option
+as_option : {T E : Type 0} (P : T → Type 0) (Q : Type 0) (r : Result T E) → MatchResult r P (λ _. Q) → MatchOption (result_ok r) Q P
+as_option P Q (Ok x) h = h
+as_option P Q (Err x) h = h
 
-pub reached_going : (k : Setting) (count : ℕ) (m m' : State) → Reached k count m m' → Going k m → Going k m'
-reached_going k count m m' r go = (r.stepped go).going
+pub answered : {T E : Type 0} (P : T → Type 0) (Q : Type 0) (r : Result T E) (o : Option T) → o ≡ result_ok r → MatchResult r P (λ _. Q) → MatchOption o Q P
+answered P Q r o e h = subst (λ z. MatchOption z Q P) (sym e) (as_option P Q r h)
 
-pub reached_more : (k : Setting) (count at next count' : ℕ) (m m' m'' : State) → Reached k count m m' → Advances k at next count' m' m'' → Reached k count' m m''
-reached_more k count at next count' m m' m'' r a = record { few = a.few; stepped = λ go. stepped_trans go (r.stepped go) (a.stepped (r.stepped go).going) }
+-- slots that have no cells
+pub no_slots : (n y : ℕ) → get_or {A = Option ℕ} (replicate n None) y None ≡ None
+no_slots zero y = refl
+no_slots (suc n) zero = refl
+no_slots (suc n) (suc y) = no_slots n y
 
-pub reached_stuck : (k : Setting) (count : ℕ) (m m' : State) → Reached k count m m' → Going k m → Stuck k m' → Stuck k m
-reached_stuck k count m m' r go s = stuck_later (r.stepped go).steps s
+pub reached_none : (k : Setting) (m : State) → Reached k m m
+reached_none k m = record { stepped = stepped_none k m }
 
-pub reached_end : (k : Setting) (count at : ℕ) (m : State) (words : List ℕ) (H : Heap) (S : Slots) (R : List Operand) (G : List Goal) → length words ≤ at
-    → Reached k count m (state_at words at H S R G count) → Ended k count m H S R (take count G)
-reached_end k count at m words H S R G le r = record {
-  few = r.few;
-  stepped = λ go. subst (λ c. Stepped k m (state H S R (take count G) (map decode c)) go) (drop_all at words le) (r.stepped go);
-}
+pub reached_more : (k : Setting) (m m' m'' : State) → Reached k m m' → Reached k m' m'' → Reached k m m''
+reached_more k m m' m'' r a = record { stepped = λ go. stepped_trans go (r.stepped go) (a.stepped (r.stepped go).going) }
+
+pub reached_stuck : (k : Setting) (m m' : State) → Reached k m m' → Going k m → Stuck k m' → Stuck k m
+reached_stuck k m m' r go s = stuck_later (r.stepped go).steps s
 
 -- the whole clause
-module _ (table words : List ℕ) (g : Goal) (H : Heap) (S : Slots) (R : List Operand) (G : List Goal)
-    (empty : (y : ℕ) → get_or S y None ≡ None) (good : Good table (length H) g) (ready : Ready table g.arity (length S) (length R) [] (map decode words)) where
-  abbrev pub going_first : Closed H → Typed table H → length H + dues (map decode words) ≤ cell_limit → calls (map decode words) ≤ call_limit
-      → Going (setting table g.arity g.first call_limit) (state_at words 0 H S R G 0)
-  going_first closed typed room few = going_start table g call_limit H S R (map decode words) empty good ready closed typed room few
+module _ (table words : List ℕ) (g : Goal) (H : Heap) (r : Registers) (blank : Blank r) (clause : Runnable table g.symbol words) (good : Good table (length H) g) (closed : Closed H) (typed : Typed table H)
+    (room : length H + length words ≤ cell_limit + 2) where
+  ready : Ready table g.arity (length r.slots) (length r.puts) [] (map decode words)
+  ready = ready_more table g.arity (opened words) (length r.slots) (length r.puts) (omega (arith, blank.opened, clause.formed.few)) [] (map decode words)
+      (runnable_ready table g.symbol words clause g.arity (length r.puts) good.size (omega (arith, blank.puts)))
 
-  pub told_leaves : (r : Option ℕ) (H' : Heap) (S' : Slots) (R' : List Operand) (G' : List Goal) → Closed H → Typed table H → length H + dues (map decode words) ≤ cell_limit → calls (map decode words) ≤ call_limit
-      → MatchOption r (Stuck (setting table g.arity g.first call_limit) (state_at words 0 H S R G 0))
-      (λ n. Ended (setting table g.arity g.first call_limit) n (state_at words 0 H S R G 0) H' S' R' (take n G'))
-      → MatchOption r ((s : Symbols) → Names s table → Denied s H g (map decode words)) (λ n. Leaves table H g words H' n G')
-  told_leaves None H' S' R' G' closed typed room few h = λ s names. denied table g call_limit H S R (map decode words) empty good ready s names h
-  told_leaves (Some n) H' S' R' G' closed typed room few h =
-      let q = h.stepped (going_first closed typed room few) in
+  abbrev first : Going (setting_of table g) (state H r.slots r.puts [] (map decode words))
+  first =
+      let costs = runnable_costs table g.symbol words clause in
+      going_start table g call_limit H r.slots r.puts (map decode words) blank.slots good ready closed typed (omega (arith, costs.0, room)) costs.1
+
+  pub going_first : Going (setting_of table g) (state_of H r (map decode words))
+  going_first = subst (λ B. Going (setting_of table g) (state H r.slots r.puts B (map decode words))) (sym blank.goals) first
+
+  pub told_denied : Stuck (setting_of table g) (state_of H r (map decode words)) → (s : Symbols) → Names s table → Denied s H g (map decode words)
+  told_denied h s names =
+      denied table g call_limit H r.slots r.puts (map decode words) blank.slots good ready s names (subst (λ B. Stuck (setting_of table g) (state H r.slots r.puts B (map decode words))) blank.goals h)
+
+  pub told_leaves : (H' : Heap) (r' : Registers) → Reached (setting_of table g) (state_of H r (map decode words)) (state_of H' r' []) → Leaves table H g words H' r'.goals.items
+  told_leaves H' r' h =
+      let q = (subst (λ B. Reached (setting_of table g) (state H r.slots r.puts B (map decode words)) (state_of H' r' [])) blank.goals h).stepped first in
       record {
-        few = h.few;
+        few = omega (arith, q.going.goals_room);
         typed = q.going.stands.typed;
         goods = q.going.goals_in;
         paid = omega (arith, q.paid);
-        entered = λ s names. entered table g call_limit H S R (map decode words) empty good ready s names H' S' R' (take n G') q.steps;
+        entered = λ s names. entered table g call_limit H r.slots r.puts (map decode words) blank.slots good ready s names H' r'.slots r'.puts r'.goals.items q.steps;
       }
-
--- slots that are emptied
-pub cleared_more : (S : Slots) (y : ℕ) → y < length S → ((j : ℕ) → j < y → get_or S j None ≡ None) → (j : ℕ) → j < y + 1 → get_or (set S y None) j None ≡ None
-cleared_more S y lt h j l =
-    elim (ℕ_discrete j y) [
-      | yes e ↦ ap (λ z. get_or (set S y None) z None) e ∙ get_or-set_same S y None None lt
-      | no ne ↦ get_or-set_other S y j None None ne ∙ h j (omega arith)
-    ]
-
-pub cleared_all : (S : Slots) (y : ℕ) → length S ≤ y → ((j : ℕ) → j < y → get_or S j None ≡ None) → (j : ℕ) → get_or S j None ≡ None
-cleared_all S y le h j = elim (dec_lt j y) [ yes l ↦ h j l | no ge ↦ get_or_past S j None (omega arith) ]
-
--- the cells that the clause has cost
-pub told_few : (table words : List ℕ) (g : Goal) (H H' : Heap) (r : Option ℕ) (G : List Goal) → dues (map decode words) + 2 ≤ length words
-    → MatchOption r ((s : Symbols) → Names s table → Denied s H g (map decode words)) (λ n. Leaves table H g words H' n G) → IfSome r (λ n. length H' + 2 ≤ length H + length words)
-told_few table words g H H' None G le h = tt
-told_few table words g H H' (Some n) G le h = omega (arith, h.paid)
-
--- the way back
-pub left_saves : (H H' : Heap) (t t' : List Bound) (mark top : ℕ) → top ≡ length H → Saves H t mark (length H) → Grew H t H' t' → Saves H' t' mark top
-left_saves H H' t t' mark top e s g = saves_grew (subst (Saves H t mark) (sym e) s) g
-
-pub left_cells : {H H' : Heap} {t t' : List Bound} → Grew H t H' t' → (mark top : ℕ) → mark ≡ length t → top ≡ length H → take top (undone (drop mark t') H') ≡ H
-left_cells {H} {H'} {t} {t'} g mark top em et = ap₂ (λ (m n : ℕ). take n (undone (drop m t') H')) em et ∙ grew_cells g
-
-pub left_trail : {H H' : Heap} {t t' : List Bound} → Grew H t H' t' → (mark : ℕ) → mark ≡ length t → take mark t' ≡ t
-left_trail {t' = t'} g mark em = ap (λ m. take m t') em ∙ grew_trail g
-
-pub left_grew : (H H' : Heap) (t t' : List Bound) → H' ≡ H → t' ≡ t → Grew H t H' t'
-left_grew H H' t t' eh et = subst (λ X. Grew H t X t') (sym eh) (subst (λ x. Grew H t H x) (sym et) (grew_none H t))

@@ -1,7 +1,6 @@
 -- A cell that has been made equal to an operand, or could not be.
-use Rattle.std.proofs.Common.{◌≡◌, ℕ, ◌+◌, ◌<◌, ◌≤◌, Bool, true, false, eqb, List, [], ◌∷◌, ◌++◌, length, get_or, set, Some, None, MatchBool, sym, ap, subst, arith}
+use Rattle.std.proofs.Common.{◌≡◌, ℕ, ◌+◌, ◌<◌, ◌≤◌, Bool, true, false, List, [], ◌∷◌, ◌++◌, length, get_or, set, Some, None, MatchBool, sym, ap, subst, arith}
 use Rattle.std.proofs.lemmas.List.{length_push}
-use Rattle.std.proofs.lemmas.Bool.{eqb-true, eqb-false}
 use Rattle.heap.specs.Heaps.{Heap, cell}
 use Rattle.heap.specs.Solutions.{Root, Apart}
 use Rattle.heap.specs.declared.cell.Cell.TheVariants.{Node}
@@ -29,13 +28,11 @@ fresh_told H S y i l lt free = λ table st _. got_fresh table H S st y i l lt fr
 
 -- the cell's root is a structure
 module _ (H : Heap) (c i r g m b : ℕ) (root : Root H i r) (at : cell H r ≡ Node g m b) where
-  pub constant_clash : (g ≡ c → ⊥) → (S : Slots) → Fails H S (λ table. Takes table (length S) (Constant c)) (Is (Constant c) i)
-  constant_clash ne S table st takes = unmet_constant table H S st i r g m b root at c takes (λ e _. ne e)
+  pub constant_same : g ≡ c → m ≡ 0 → (S : Slots) → Turns H S (λ table. Takes table (length S) (Constant c)) (Is (Constant c) i) (Is (Constant c) i) H S
+  constant_same e em S table st takes = got_constant table H S st i r g m b root at c e em
 
-  pub constant_told : g ≡ c → (r : Bool) → r ≡ eqb m 0 → (S : Slots)
-      → MatchBool r (Turns H S (λ table. Takes table (length S) (Constant c)) (Is (Constant c) i) (Is (Constant c) i) H S) (Fails H S (λ table. Takes table (length S) (Constant c)) (Is (Constant c) i))
-  constant_told e true q S = λ table st takes. got_constant table H S st i r g m b root at c e (eqb-true m 0 (sym q))
-  constant_told e false q S = λ table st takes. unmet_constant table H S st i r g m b root at c takes (λ _ em. eqb-false m 0 (sym q) em)
+  pub constant_clash : (g ≡ c → m ≡ 0 → ⊥) → (S : Slots) → Fails H S (λ table. Takes table (length S) (Constant c)) (Is (Constant c) i)
+  constant_clash ne S table st takes = unmet_constant table H S st i r g m b root at c takes ne
 
 -- or it is unbound
 module _ (H H₁ H' : Heap) (t t' : List Bound) (c i j : ℕ) (lt : i < length H) (made : H₁ ≡ H ++ Node c 0 0 ∷ []) (place : j ≡ length H) where

@@ -1,4 +1,3 @@
-pub mod StoreLaws
 pub mod GetLaws
 pub mod StructureLaws
 pub mod WordLaws

@@ -1,5 +1,5 @@
 -- Structures that are made and read, cell by cell.
-use Rattle.std.proofs.Common.{◌≡◌, ℕ, ◌+◌, ◌<◌, ◌≤◌, Bool, true, false, List, [], ◌∷◌, ◌++◌, length, get_or, Some, None, MatchBool, Option, sym, refl, ap, ◌∙◌, subst, arith}
+use Rattle.std.proofs.Common.{◌≡◌, ℕ, ◌+◌, ◌<◌, ◌≤◌, List, [], ◌∷◌, ◌++◌, length, get_or, Some, None, Option, Bool, true, false, MatchBool, sym, refl, ap, ◌∙◌, subst, arith}
 use Rattle.std.proofs.lemmas.List.{length_push}
 use Rattle.heap.specs.Heaps.{Heap, cell, arity}
 use Rattle.heap.specs.Solutions.{Root}
@@ -19,7 +19,7 @@ use Rattle.entering.proofs.RowLaws.{rows_none, rows_made, rows_read, rows_unread
 use Rattle.entry.specs.Loops.{Building, Reading}
 use Rattle.entry.proofs.GetLaws.{inside_long}
 
-slot_arity : (x : Option ℕ) → arity (slot_cell x) ≡ 0
+pub slot_arity : (x : Option ℕ) → arity (slot_cell x) ≡ 0
 slot_arity None = refl
 slot_arity (Some i) = refl
 
@@ -124,6 +124,3 @@ told_write H H₁ H' S S₁ S' op f n y j false first un = λ table st built.
 -- the slot of an operand in a row
 pub taken_at : (op : ℕ → Operand) (n k m l : ℕ) (o : Operand) → o ≡ op k → l ≡ m → k < n → AllTaken m op n → Taken l o
 taken_at op n k m l o eo el lt h = subst (λ z. Taken z o) (sym el) (subst (Taken m) (sym eo) (h k lt))
-
-pub pushed_grew : (H H₁ H₂ : Heap) (t t₁ t₂ : List Bound) (c : Cell) → Grew H t H₁ t₁ → H₂ ≡ H₁ ++ c ∷ [] → t₂ ≡ t₁ → Grew H t H₂ t₂
-pushed_grew H H₁ H₂ t t₁ t₂ c g e et = subst (λ x. Grew H t H₂ x) (sym et) (grew_trans g (subst (λ X. Grew H₁ t₁ X t₁) (sym e) (grew_push H₁ t₁ c)))

@@ -5,9 +5,9 @@ use Rattle.code.specs.declared.instructions.Operand.TheVariants.{Fresh}
 use Rattle.code.specs.Words.{decode}
 use Rattle.entering.specs.Ready.{operand_of}
 
--- those of the words from a place on
-abbrev pub op_at : List ℕ → ℕ → ℕ → Operand
-op_at words at = λ j. operand_of (decode (slice_index words (at + j)))
+-- those of words
+abbrev pub worded : List ℕ → ℕ → Operand
+worded words = λ j. operand_of (decode (slice_index words j))
 
 -- those that were put, from argument 1 on
 abbrev pub put_at : List Operand → ℕ → Operand

@@ -7,3 +7,4 @@ mod steps;
 mod structures;
 
 pub use clauses::{attempt, enter};
+pub use operands::{make_constant, make_slot};

@@ -1,5 +1,6 @@
 // A cell for an operand, and a cell that is made equal to one. A slot that has no cell takes the first that it is used with.
-ghost use Rattle.std.specs.Prelude.{◌≡◌, ℕ, ◌+◌, ◌<◌, ◌≤◌, List, [], ◌∷◌, ◌++◌, length, set, Some, None, MatchBool, slice_index, slice_index_or};
+// `Inside` is of the slots and the store together. A struct that borrowed the store beside them would say in each method that it borrows the same one.
+ghost use Rattle.std.specs.Prelude.{◌≡◌, ℕ, ◌+◌, ◌<◌, ◌≤◌, List, [], ◌∷◌, ◌++◌, length, set, Some, None, MatchBool, is_ok, slice_index, slice_index_or};
 ghost use Rattle.heap.specs.Limits.{cell_limit};
 ghost use Rattle.heap.specs.declared.cell.Cell.TheVariants.{Node};
 ghost use Rattle.cells.specs.Growth.{Grew};
@@ -12,27 +13,20 @@ ghost use Rattle.entering.specs.Turns.{Slots, Inside, Turns, Fails, Takes, Taken
 use cells::Store;
 use code::{Instruction, Operand, decode};
 use heap::Cell;
+use matching::Unlike;
 
-// The operand of a unify or a set instruction.
-fn operand_of(instruction: Instruction) -> Operand
-    ensures { result ≡ operand_of instruction }
+// The operand of a unify or a set instruction; what it is of others does not matter, since the code is ready.
+pub(crate) fn operand_of(word: u32) -> Operand
+    ensures { result ≡ operand_of (decoded word) }
 {
-    match instruction {
-        Instruction::Unify(o) => o,
-        Instruction::Set(o) => o,
+    match decode(word) {
+        Instruction::Unify(o) | Instruction::Set(o) => o,
         _ => Operand::Constant(0),
     }
 }
 
-// That of the word at `at`.
-pub(crate) fn operand_at(code: &[u32], at: usize) -> Operand
-    requires { at < length code.now }
-    ensures { result ≡ operand_of (decoded (slice_index code.now at)) }
-{
-    operand_of(decode(code[at]))
-}
-
-fn make_slot(store: &mut Store, slots: &mut [Option<u16>], y: usize)
+// Makes a cell for the slot `y`, which takes it where it has none.
+pub fn make_slot(store: &mut Store, slots: &mut [Option<u16>], y: usize)
     requires y_within { y < length slots.old }
     requires inside { Inside slots.old (cells_of store.old) }
     requires room { length (cells_of store.old) < cell_limit }
@@ -42,13 +36,13 @@ fn make_slot(store: &mut Store, slots: &mut [Option<u16>], y: usize)
 {
     if let Some(i) = slots[y] {
         store.push_ref(i);
-        return;
+    } else {
+        slots[y] = store.push_unbound();
     }
-    slots[y] = Some(store.top());
-    store.push_unbound();
 }
 
-fn make_constant(store: &mut Store, c: u16)
+// Makes a cell for the constant `c`.
+pub fn make_constant(store: &mut Store, c: u16)
     requires room { length (cells_of store.old) < cell_limit }
     ensures cells { cells_of store.new ≡ cells_of store.old ++ Node c 0 0 ∷ [] }
     ensures trail { bound_of store.new ≡ bound_of store.old }
@@ -66,47 +60,47 @@ pub(crate) fn make(store: &mut Store, slots: &mut [Option<u16>], o: Operand)
     ensures trail { bound_of store.new ≡ bound_of store.old }
 {
     match o {
-        Operand::Fresh(y) => make_slot(store, slots, y as usize),
-        Operand::Known(y) => make_slot(store, slots, y as usize),
+        Operand::Fresh(y) | Operand::Known(y) => make_slot(store, slots, y as usize),
         Operand::Constant(c) => make_constant(store, c),
     }
 }
 
 // Equates the cell `i` with a slot.
-pub(crate) fn get_slot(store: &mut Store, slots: &mut [Option<u16>], y: usize, i: u16) -> bool
+pub(crate) fn get_slot(
+    store: &mut Store,
+    slots: &mut [Option<u16>],
+    y: usize,
+    i: u16,
+) -> Result<(), Unlike>
     requires within { i < length (cells_of store.old) }
     requires y_within { y < length slots.old }
     requires inside { Inside slots.old (cells_of store.old) }
     ensures grew { Grew (cells_of store.old) (bound_of store.old) (cells_of store.new) (bound_of store.new) }
     ensures long { length (cells_of store.new) ≡ length (cells_of store.old) }
     ensures inside { Inside slots.new (cells_of store.new) }
-    ensures result { MatchBool result (Turns (cells_of store.old) slots.old (λ table. Unit {0}) (Is (Known y) i) (Is (Known y) i) (cells_of store.new) slots.new) (Fails (cells_of store.old) slots.old (λ table. Unit {0}) (Is (Known y) i)) }
+    ensures result { MatchBool (is_ok result) (Turns (cells_of store.old) slots.old (λ table. Unit {0}) (Is (Known y) i) (Is (Known y) i) (cells_of store.new) slots.new) (Fails (cells_of store.old) slots.old (λ table. Unit {0}) (Is (Known y) i)) }
 {
     if let Some(j) = slots[y] {
         return store.unify(i, j);
     }
     slots[y] = Some(i);
-    true
+    Ok(())
 }
 
 // Equates the cell `i` with a constant. A cell is made for it only where `i` is unbound.
-fn get_constant(store: &mut Store, c: u16, i: u16) -> bool
+fn get_constant(store: &mut Store, c: u16, i: u16) -> Result<(), Unlike>
     requires within { i < length (cells_of store.old) }
     requires room { length (cells_of store.old) < cell_limit }
     ensures grew { Grew (cells_of store.old) (bound_of store.old) (cells_of store.new) (bound_of store.new) }
     ensures long { length (cells_of store.new) ≤ length (cells_of store.old) + 1 }
-    ensures result { (S : Slots) → MatchBool result (Turns (cells_of store.old) S (λ table. Takes table (length S) (Constant c)) (Is (Constant c) i) (Is (Constant c) i) (cells_of store.new) S) (Fails (cells_of store.old) S (λ table. Takes table (length S) (Constant c)) (Is (Constant c) i)) }
+    ensures result { (S : Slots) → MatchBool (is_ok result) (Turns (cells_of store.old) S (λ table. Takes table (length S) (Constant c)) (Is (Constant c) i) (Is (Constant c) i) (cells_of store.new) S) (Fails (cells_of store.old) S (λ table. Takes table (length S) (Constant c)) (Is (Constant c) i)) }
 {
-    if let Cell::Node {
-        symbol,
-        arity,
-        first: _,
-    } = store.get(store.root(i))
-    {
-        if symbol != c {
-            return false;
-        }
-        return arity == 0;
+    if let Cell::Node { symbol, arity, .. } = store.get(store.root(i)) {
+        return if symbol == c && arity == 0 {
+            Ok(())
+        } else {
+            Err(Unlike)
+        };
     }
     let j = store.top();
     make_constant(store, c);
@@ -114,7 +108,12 @@ fn get_constant(store: &mut Store, c: u16, i: u16) -> bool
 }
 
 // Equates the cell `i` with what the operand names.
-pub(crate) fn get(store: &mut Store, slots: &mut [Option<u16>], o: Operand, i: u16) -> bool
+pub(crate) fn get(
+    store: &mut Store,
+    slots: &mut [Option<u16>],
+    o: Operand,
+    i: u16,
+) -> Result<(), Unlike>
     requires within { i < length (cells_of store.old) }
     requires taken { Taken (length slots.old) o }
     requires inside { Inside slots.old (cells_of store.old) }
@@ -122,11 +121,10 @@ pub(crate) fn get(store: &mut Store, slots: &mut [Option<u16>], o: Operand, i: u
     ensures grew { Grew (cells_of store.old) (bound_of store.old) (cells_of store.new) (bound_of store.new) }
     ensures long { length (cells_of store.new) ≤ length (cells_of store.old) + 1 }
     ensures inside { Inside slots.new (cells_of store.new) }
-    ensures result { MatchBool result (Turns (cells_of store.old) slots.old (λ table. Takes table (length slots.old) o) (Is o i) (Is o i) (cells_of store.new) slots.new) (Fails (cells_of store.old) slots.old (λ table. Takes table (length slots.old) o) (Is o i)) }
+    ensures result { MatchBool (is_ok result) (Turns (cells_of store.old) slots.old (λ table. Takes table (length slots.old) o) (Is o i) (Is o i) (cells_of store.new) slots.new) (Fails (cells_of store.old) slots.old (λ table. Takes table (length slots.old) o) (Is o i)) }
 {
     match o {
-        Operand::Fresh(y) => get_slot(store, slots, y as usize, i),
-        Operand::Known(y) => get_slot(store, slots, y as usize, i),
+        Operand::Fresh(y) | Operand::Known(y) => get_slot(store, slots, y as usize, i),
         Operand::Constant(c) => get_constant(store, c, i),
     }
 }

@@ -1,36 +1,31 @@
 // The instructions of a clause.
-ghost use Rattle.std.specs.Prelude.{◌≡◌, ℕ, ◌+◌, ◌<◌, ◌≤◌, List, [], ◌∷◌, ◌++◌, length, MatchOption, slice_index};
+ghost use Rattle.std.specs.Prelude.{◌≡◌, ℕ, ◌+◌, ◌<◌, ◌≤◌, List, [], ◌∷◌, map, length, IfOk, MatchResult};
 ghost use Rattle.heap.specs.Limits.{cell_limit};
 ghost use Rattle.cells.specs.Growth.{Grew};
 ghost use Rattle.cells.specs.Stores.{cells_of, bound_of};
-ghost use Rattle.code.specs.Limits.{call_limit};
+ghost use Rattle.code.specs.Words.{decode};
 ghost use Rattle.entering.specs.Turns.{Inside, Nothing, Turns, AllTake, AllTaken, Rows};
-ghost use Rattle.entering.specs.States.{setting, Going, Stuck};
+ghost use Rattle.entering.specs.States.{Going, Stuck};
 ghost use Rattle.entry.specs.Operands.{put_at};
-ghost use Rattle.entry.specs.Runs.{state_at, Advances};
+ghost use Rattle.entry.specs.Runs.{Blank, setting_of, state_of, Reached};
 
 use crate::operands::{get, make};
 use crate::structures::structure;
+use arrayvec::ArrayVec;
 use cells::Store;
-use code::{Instruction, Operand, decode};
+use code::{ARGUMENT_LIMIT, CALL_LIMIT, Instruction, Operand, SLOT_LIMIT, arity_at};
 use entering::Goal;
+use matching::Unlike;
 
-// Where the code goes on, and how many goals it has left so far.
-#[derive(Clone, Copy)]
-pub(crate) struct Place {
-    pub(crate) at: usize,
-    pub(crate) goals: usize,
-}
+// Argument `a` is put at `a`.
+const PUT_LIMIT: usize = ARGUMENT_LIMIT + 1;
 
-fn arity_of(table: &[u8], symbol: u16) -> u16
-    ensures value { result ≡ slice_index table.now symbol }
-    ensures small { result < 256 }
-{
-    let i = symbol as usize;
-    if i >= table.len() {
-        return 0;
-    }
-    table[i] as u16
+// What a clause's code works on: a cell for each slot that has one, the arguments put for the next goal, and the goals left so far.
+#[derive(Drop)]
+pub(crate) struct Registers {
+    pub(crate) slots: [Option<u16>; SLOT_LIMIT],
+    pub(crate) puts: [Operand; PUT_LIMIT],
+    pub(crate) goals: ArrayVec<Goal, CALL_LIMIT>,
 }
 
 // Makes cells for the first `n` arguments that were put.
@@ -43,97 +38,66 @@ fn pass(store: &mut Store, slots: &mut [Option<u16>], puts: &[Operand], n: u16)
     ensures long { length (cells_of store.new) ≡ length (cells_of store.old) + n }
     ensures result { Turns (cells_of store.old) slots.old (AllTake (length slots.old) (put_at puts.now) n) Nothing (Rows (length (cells_of store.old)) (put_at puts.now) n) (cells_of store.new) slots.new }
 {
-    for k in 0..n {
-        make(store, slots, puts[1 + k as usize]);
+    for o in &puts[1..1 + n as usize] {
+        make(store, slots, *o);
     }
 }
 
-// Does the instruction at `at`, with those of its arguments, and answers where the code goes on, or nothing where the clause does not fit.
-pub(crate) fn step(
-    store: &mut Store,
-    slots: &mut [Option<u16>],
-    puts: &mut [Operand],
-    goals: &mut [Goal],
-    count: usize,
-    table: &[u8],
-    args: u16,
-    first: u16,
-    code: &[u32],
-    at: usize,
-) -> Option<Place>
-    requires within { at < length code.now }
-    requires goals { call_limit ≤ length goals.old }
-    requires count { count ≤ call_limit }
-    requires going { Going (setting table.now args first call_limit) (state_at code.now at (cells_of store.old) slots.old puts.old goals.old count) }
-    ensures grew { Grew (cells_of store.old) (bound_of store.old) (cells_of store.new) (bound_of store.new) }
-    ensures result { MatchOption result (Stuck (setting table.now args first call_limit) (state_at code.now at (cells_of store.old) slots.old puts.old goals.old count)) (λ p. Advances (setting table.now args first call_limit) at p.at p.goals (state_at code.now at (cells_of store.old) slots.old puts.old goals.old count) (state_at code.now p.at (cells_of store.new) slots.new puts.new goals.new p.goals)) }
-{
-    match decode(code[at]) {
-        Instruction::Get(o, a) => {
-            if !get(store, slots, o, first + (a as u16 - 1)) {
-                return None;
+impl Registers {
+    pub(crate) fn new() -> Registers
+        ensures { Blank result }
+    {
+        Registers {
+            slots: [None; SLOT_LIMIT],
+            puts: [Operand::Fresh(0); PUT_LIMIT],
+            goals: ArrayVec::new(),
+        }
+    }
+
+    // Does the instruction, with those of its arguments at the front of the rest, and answers the code that is left, or that two terms are unlike
+    // where the clause does not fit.
+    pub(crate) fn step<'a>(
+        &mut self,
+        store: &mut Store,
+        table: &[u8],
+        goal: Goal,
+        instruction: Instruction,
+        rest: &'a [u32],
+    ) -> Result<&'a [u32], Unlike>
+        requires { Going (setting_of table.now goal) (state_of (cells_of store.old) self.old (instruction ∷ map decode rest.now)) }
+        ensures grew { Grew (cells_of store.old) (bound_of store.old) (cells_of store.new) (bound_of store.new) }
+        ensures shorter { IfOk result (λ left. length left.now ≤ length rest.now) }
+        ensures result { MatchResult result (λ left. Reached (setting_of table.now goal) (state_of (cells_of store.old) self.old (instruction ∷ map decode rest.now)) (state_of (cells_of store.new) self.new (map decode left.now))) (λ _. Stuck (setting_of table.now goal) (state_of (cells_of store.old) self.old (instruction ∷ map decode rest.now))) }
+    {
+        match instruction {
+            Instruction::Get(o, a) => {
+                get(store, &mut self.slots, o, goal.first + (a as u16 - 1))?;
+                Ok(rest)
             }
-            Some(Place {
-                at: at + 1,
-                goals: count,
-            })
-        }
-        Instruction::GetStructure(y, f) => {
-            let n = arity_of(table, f);
-            if !structure(store, slots, code, at + 1, n, y as usize, f) {
-                return None;
+            Instruction::GetStructure(y, f) | Instruction::PutStructure(y, f) => {
+                let (words, left) = rest.split_at(arity_at(table, f as usize) as usize);
+                structure(store, &mut self.slots, words, y as usize, f)?;
+                Ok(left)
             }
-            Some(Place {
-                at: at + 1 + n as usize,
-                goals: count,
-            })
-        }
-        Instruction::Unify(_) => Some(Place {
-            at: at + 1,
-            goals: count,
-        }),
-        Instruction::Put(o, a) => {
-            puts[a as usize] = o;
-            Some(Place {
-                at: at + 1,
-                goals: count,
-            })
-        }
-        Instruction::PutStructure(y, f) => {
-            let n = arity_of(table, f);
-            if !structure(store, slots, code, at + 1, n, y as usize, f) {
-                return None;
+            Instruction::Put(o, a) => {
+                self.puts[a as usize] = o;
+                Ok(rest)
             }
-            Some(Place {
-                at: at + 1 + n as usize,
-                goals: count,
-            })
+            Instruction::Call(p) => {
+                let n = arity_at(table, p as usize) as u16;
+                let first = store.top();
+                pass(store, &mut self.slots, &self.puts, n);
+                self.goals.push(Goal {
+                    symbol: p,
+                    arity: n,
+                    first,
+                });
+                Ok(rest)
+            }
+            Instruction::Unify(_)
+            | Instruction::Set(_)
+            | Instruction::Allocate(_)
+            | Instruction::Proceed => Ok(rest),
         }
-        Instruction::Set(_) => Some(Place {
-            at: at + 1,
-            goals: count,
-        }),
-        Instruction::Call(p) => {
-            let n = arity_of(table, p);
-            let cell = store.top();
-            pass(store, slots, puts, n);
-            goals[count] = Goal {
-                symbol: p,
-                arity: n,
-                first: cell,
-            };
-            Some(Place {
-                at: at + 1,
-                goals: count + 1,
-            })
-        }
-        Instruction::Allocate(_) => Some(Place {
-            at: at + 1,
-            goals: count,
-        }),
-        Instruction::Proceed => Some(Place {
-            at: at + 1,
-            goals: count,
-        }),
     }
 }

@@ -3,7 +3,7 @@ use Rattle.std.proofs.Common.{◌≡◌, ℕ, zero, suc, ◌+◌, ◌<◌, ◌�
 use native.Mathlib.Decide.{ℕ_discrete}
 use lib.ListN.{length-replicate}
 use Rattle.std.proofs.lemmas.List.Sums.{sum_by-set, sum_by-cons}
-use Rattle.std.proofs.lemmas.List.{length_push, nil_from_length}
+use Rattle.std.proofs.lemmas.List.{length_push}
 use Rattle.heap.specs.Heaps.{Heap, Edge, Reach, here, step, Below}
 use Rattle.heap.specs.Marks.{On, Seen, blank, Visited, Search}
 use Rattle.heap.proofs.HeapLaws.{reach_trans}
@@ -39,17 +39,6 @@ seen_less s k i q =
       | yes e ↦ inr e
       | no ne ↦ inl (sym (get_or-set_other s k i true false ne) ∙ q)
     ]
-
-pub visited_none : (s : List Bool) (t : List ℕ) (lo : ℕ) → Visited s s t t lo lo
-visited_none s t lo = record {
-  long = refl;
-  more = λ i h. h;
-  all = λ i l h. absurd (omega arith);
-  new = λ i h. inl h;
-  kept = λ i h. h;
-  whence = λ i h. inl h;
-  spent = refl;
-}
 
 module _ (s s' : List Bool) (t t' : List ℕ) (lo k : ℕ) (v : Visited s s' t t' lo k) (from : lo ≤ k) where
   pub visited_old : Seen s' k → Visited s s' t t' lo (k + 1)
@@ -115,25 +104,23 @@ none_seen zero i h = let z : ◌≡◌ {A = ℕ} 0 1 = cc in absurd (omega arith
 none_seen (suc n) zero h = let z : ◌≡◌ {A = ℕ} 0 1 = cc in absurd (omega arith)
 none_seen (suc n) (suc i) h = none_seen n i h
 
--- the same turn, as the code has it: u is the stack before `at` was taken, s₀ the marks as `visit` was passed them, s'' as the loop has them after
-module _ {H : Heap} {start goal : ℕ} {s s₀ s' s'' : List Bool} {u t t' : List ℕ} {at lo hi : ℕ}
-    (taken : u ≡ t ++ at ∷ []) (passed : s₀ ≡ s) (v : Visited s₀ s' t t' lo hi) (after : s'' ≡ s') where
-  pub search_turn : Search H start goal s u → (at ≡ goal → ⊥) → Below H at lo hi → Search H start goal s'' t'
-  search_turn was other b =
-      subst (λ x. Search H start goal x t') (sym after)
-      (search_more H start goal s₀ s' t t' at lo hi (subst (λ x. Search H start goal x (t ++ at ∷ [])) (sym passed) (subst (λ x. Search H start goal s x) taken was)) other b v)
+-- the same turn, from the stack u before `at` was taken
+pub search_turn : {H : Heap} {start goal : ℕ} {s s' : List Bool} {u t t' : List ℕ} {at lo hi : ℕ} → u ≡ t ++ at ∷ [] → Visited s s' t t' lo hi
+    → Search H start goal s u → (at ≡ goal → ⊥) → Below H at lo hi → Search H start goal s' t'
+search_turn {H} {start} {goal} {s} {s'} {u} {t} {t'} {at} {lo} {hi} taken v was other b =
+    search_more H start goal s s' t t' at lo hi (subst (Search H start goal s) taken was) other b v
 
-pub search_falls : {s s₀ s' s'' : List Bool} {u t t' : List ℕ} (at : ℕ) {lo hi : ℕ} → u ≡ t ++ at ∷ [] → s₀ ≡ s → Visited s₀ s' t t' lo hi → s'' ≡ s'
-    → sum_by blank s'' + length t' < sum_by blank s + length u
-search_falls {t} at taken passed v after = omega (arith, v.spent, ap (sum_by blank) after, ap (sum_by blank) passed, ap length taken, length_push t at)
+pub search_falls : {s s' : List Bool} {u t t' : List ℕ} (at : ℕ) {lo hi : ℕ} → u ≡ t ++ at ∷ [] → Visited s s' t t' lo hi
+    → sum_by blank s' + length t' < sum_by blank s + length u
+search_falls {t} at taken v = omega (arith, v.spent, ap length taken, length_push t at)
 
 pub not_true : ◌≡◌ {A = Bool} false true → ⊥
 not_true q = let z : ◌≡◌ {A = ℕ} 0 1 = cc in omega arith
 
--- each cell is pushed once, so that room for the cells without a mark is enough
-pub visit_room : {s s' : List Bool} {t t' : List ℕ} {lo k : ℕ} (room : ℕ) → Visited s s' t t' lo k → sum_by blank s + length t ≤ room
-    → k < length s' → get_or s' k false ≡ false → length t' < room
-visit_room {s} {s'} {k = k} room v few lt q = omega (arith, v.spent, sum_by-set blank s' k true false lt, ap blank q)
+-- what a last `pop` says of what it found
+pub nothing_left : {X : Type 0} (xs : List X) → (0 < length xs → ◌≡◌ {A = Bool} false true) → xs ≡ []
+nothing_left [] h = refl
+nothing_left (x ∷ xs) h = absurd (not_true (h (omega arith)))
 
 -- a turn of `visit` at a cell without a mark
 pub visit_more : {s s' s'' : List Bool} {t t' t'' : List ℕ} {lo k : ℕ} → Visited s s' t t' lo k → lo ≤ k → k < length s' → get_or s' k false ≡ false
@@ -165,8 +152,8 @@ search_begin {H} {start} {goal} {s} {s'} {t} {t'} n clean none lt long v =
     search_none H start goal s s' t t' lt (omega (arith, ap length clean, length-replicate n false))
     (λ i h. none_seen n i (subst (λ x. Seen x i) clean h)) (λ i h. on_none i t none h) v
 
-pub search_end : {H : Heap} {start goal : ℕ} {s : List Bool} {t : List ℕ} → length t ≡ 0 → Search H start goal s t → Reach H start goal → ⊥
-search_end {H} {start} {goal} {s} {t} none was r = search_all H start goal s (subst (Search H start goal s) (nil_from_length t none) was) r
+pub search_end : {H : Heap} {start goal : ℕ} {s : List Bool} {t : List ℕ} → t ≡ [] → Search H start goal s t → Reach H start goal → ⊥
+search_end {H} {start} {goal} {s} none was r = search_all H start goal s (subst (Search H start goal s) none was) r
 
 -- the cell that is taken from the stack
 pub search_met : {H : Heap} {start goal : ℕ} {s : List Bool} {u : List ℕ} (t : List ℕ) (at : ℕ) → u ≡ t ++ at ∷ [] → Search H start goal s u → Reach H start at × (at < length H)

@@ -1,14 +1,10 @@
 -- Marks on the cells that a search has met, and the stack of those that it has yet to look into.
 use Rattle.std.specs.Prelude.{◌≡◌, ℕ, ◌+◌, ◌<◌, ◌≤◌, Bool, true, false, ◌⊎◌, List, [], ◌∷◌, map, length, sum_by, ◌≢◌, nat_eq, slice_index_or}
-use Rattle.heap.specs.declared.marks.Marks.{Marks}
 use Rattle.heap.specs.Heaps.{Heap, Edge, Reach}
 
 -- the marks: a cell is marked when it has the last stamp
 abbrev pub marked : List ℕ → ℕ → List Bool
 marked stamps last = map (λ s. nat_eq s last) stamps
-
-abbrev pub marks_of : Marks → List Bool
-marks_of m = marked m.stamps m.last
 
 abbrev pub On : ℕ → List ℕ → Type 0
 On i [] = ⊥

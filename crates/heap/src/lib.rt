@@ -5,11 +5,10 @@ mod cell;
 mod follow;
 mod marks;
 mod search;
-mod stamping;
 mod theorems;
 
 pub use cell::{CELL_LIMIT, Cell};
 pub use follow::root;
 pub use marks::Marks;
-pub use search::reaches;
+pub use search::Search;
 pub use theorems::general;

@@ -2,8 +2,6 @@
 ghost use Rattle.heap.specs.Solutions.{General};
 
 // The theorem that a heap with no cell that leads back to itself stands for its most general solution.
-pub fn general() -> u8
+pub fn general()
     ensures { General }
-{
-    0
-}
+{}

@@ -2,50 +2,36 @@
 ghost use Rattle.horn.specs.Theorems.{TotalOrder, Decided, DeckGrown, SearchMoves, Agreement, OneLine, OneTranscript};
 
 // Dictionary order is a strict total order.
-pub fn order_is_total() -> u8
+pub fn order_is_total()
     ensures { TotalOrder }
-{
-    0
-}
+{}
 
 // The definitions leave at most one reply after n answers.
-pub fn replies_are_decided() -> u8
+pub fn replies_are_decided()
     ensures { Decided }
-{
-    0
-}
+{}
 
 // The paths of a deck and a query make a search tree.
-pub fn deck_is_grown() -> u8
+pub fn deck_is_grown()
     ensures { DeckGrown }
-{
-    0
-}
+{}
 
 // A depth-first search finds the answers, the end and the halt.
-pub fn search_is_exact() -> u8
+pub fn search_is_exact()
     ensures { SearchMoves }
-{
-    0
-}
+{}
 
 // The solutions of a path's equations are the instances of its clauses.
-pub fn equations_are_instances() -> u8
+pub fn equations_are_instances()
     ensures { Agreement }
-{
-    0
-}
+{}
 
 // A path has at most one answer line.
-pub fn line_is_decided() -> u8
+pub fn line_is_decided()
     ensures { OneLine }
-{
-    0
-}
+{}
 
 // A query prints at most one list of lines.
-pub fn transcript_is_decided() -> u8
+pub fn transcript_is_decided()
     ensures { OneTranscript }
-{
-    0
-}
+{}

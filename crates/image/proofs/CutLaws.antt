@@ -1,8 +1,10 @@
 -- Symbols and rows cut from words, and laid out as words.
-use Rattle.std.proofs.Common.{◌≡◌, ℕ, zero, suc, ◌*◌, ◌^◌, ◌<◌, Bool, true, false, cond, not, ◌&&◌, ◌||◌, eqb, List, [], ◌∷◌, ◌++◌, map, length, take, drop, Some, None, sym, refl, ap, ◌∙◌, subst, ap₂, append_assoc, arith}
+use Rattle.std.proofs.Common.{◌≡◌, ℕ, zero, suc, ◌*◌, ◌^◌, ◌<◌, Bool, true, false, cond, not, ◌&&◌, ◌||◌, List, [], ◌∷◌, ◌++◌, map, length, take, drop, Some, None, sym, refl, ap, ◌∙◌, subst, ap₂, append_assoc, arith, rules}
 use Rattle.std.specs.List.{flat_map, AllByRecursion}
+use Rattle.std.specs.Bool.{Decides}
+use Rattle.std.proofs.lemmas.Slice.Eq.{compares_Decides}
 use Rattle.std.proofs.lemmas.List.{take_at, drop_at, take-append-drop, map-append}
-use Rattle.std.proofs.lemmas.Bool.{and_parts, eqb-true, eq-eqb, both_ways}
+use Rattle.std.proofs.lemmas.Bool.{both_ways}
 use Rattle.code.specs.Tests.{some}
 use Rattle.image.specs.declared.rows.Row.{Row}
 use Rattle.symbol_table.specs.Symbols.{Symbol}
@@ -14,19 +16,9 @@ use Rattle.image.proofs.SpellLaws.{arity_is, words_length, proper_symbol, symbol
 abbrev pub Fit : List ℕ → Type 0
 Fit ws = AllByRecursion (λ w. w < 2 ^ 32) ws
 
-never : {A : Type 0} {x : ℕ} → Some x ≡ None → A
-never e = let z : ◌≡◌ {A = ℕ} 0 1 = cc in absurd (omega arith)
-
 -- the same words
-same_refl : (xs : List ℕ) → same xs xs ≡ true
-same_refl [] = refl
-same_refl (x ∷ xs) = ap₂ (λ (a b : Bool). a && b) (eq-eqb x x refl) (same_refl xs)
-
-same_is : (xs ys : List ℕ) → same xs ys ≡ true → xs ≡ ys
-same_is [] [] h = refl
-same_is [] (y ∷ ys) h = let z : ◌≡◌ {A = ℕ} 0 1 = cc in absurd (omega arith)
-same_is (x ∷ xs) [] h = let z : ◌≡◌ {A = ℕ} 0 1 = cc in absurd (omega arith)
-same_is (x ∷ xs) (y ∷ ys) h = let p = and_parts (eqb x y) (same xs ys) h in ap₂ ◌∷◌ (eqb-true x y p.0) (same_is xs ys p.1)
+same_decides : (xs ys : List ℕ) → Decides (same xs ys) (xs ≡ ys)
+same_decides = compares_Decides same (search rules)
 
 -- laying out: good symbols that are apart have no fault
 apart_words : (s t : Symbol) → Good s → Good t → (s ≡ t → ⊥) → same (symbol_words s) (symbol_words t) ≡ false
@@ -34,7 +26,7 @@ apart_words s t g h ne = go (same (symbol_words s) (symbol_words t)) refl
   where
     go : (b : Bool) → same (symbol_words s) (symbol_words t) ≡ b → b ≡ false
     go false e = refl
-    go true e = absurd (ne (sym (symbol_words_lem s g) ∙ ap symbol_of (same_is (symbol_words s) (symbol_words t) e) ∙ symbol_words_lem t h))
+    go true e = absurd (ne (sym (symbol_words_lem s g) ∙ ap symbol_of ((same_decides (symbol_words s) (symbol_words t)).0 e) ∙ symbol_words_lem t h))
 
 absent_words : (s : Symbol) (es : List Symbol) → Good s → Goods es → Absent s es → some (same (symbol_words s)) (map symbol_words es) ≡ false
 absent_words s [] g gs a = refl
@@ -95,9 +87,9 @@ absent_symbols x [] t ts h = tt
 absent_symbols x (e ∷ es) t ts h = go (absent_symbols x es t ts.1) (same x e) refl h
   where
     go : (some (same x) es ≡ false → Absent (symbol_of x) (map symbol_of es)) → (b : Bool) → same x e ≡ b → (b || some (same x) es) ≡ false → Absent (symbol_of x) (map symbol_of (e ∷ es))
-    go ih true q h = let z : ◌≡◌ {A = ℕ} 0 1 = cc in absurd (omega arith)
+    go ih true q h = cc
     go ih false q h = (
-      (λ w. both_ways (same x e) q (ap (λ (y : List ℕ). same y e) (sym t ∙ ap symbol_words w ∙ ts.0) ∙ same_refl e)),
+      (λ w. both_ways (same x e) q (ap (λ (y : List ℕ). same y e) (sym t ∙ ap symbol_words w ∙ ts.0) ∙ (same_decides e e).1 refl)),
       ih h,
     )
 
@@ -124,8 +116,8 @@ cut_from es (x ∷ xs) te f h = go (cut_from (es ++ x ∷ []) xs) (proper x) (so
           apart = (absent_symbols x es t te q, subst (λ (l : List Symbol). Apart l (map symbol_of xs)) (map-append symbol_of es (x ∷ [])) r.apart);
           trips = (t, r.trips);
         }
-    go ih true true p q h = never h
-    go ih false b p q h = never h
+    go ih true true p q h = cc
+    go ih false b p q h = cc
 
 pub words_cut : (n : ℕ) (ws : List ℕ) → Trips (symbols_of n ws) → flat_map symbol_words (map symbol_of (symbols_of n ws)) ++ after_symbols n ws ≡ ws
 words_cut zero ws t = refl

@@ -3,13 +3,14 @@ use Rattle.std.proofs.Common.{◌≡◌, ℕ, zero, suc, ◌+◌, ◌*◌, ◌�
 use Rattle.std.specs.List.{flat_map}
 use Rattle.std.proofs.lemmas.List.{take_at, drop_at, length-append, length-drop, length-take-le, length-map, take-append-drop}
 use Rattle.std.proofs.lemmas.Bool.{and_parts, and_from, eqb-true, eqb-false, eq-eqb, leb-true, le-leb, cond-true}
+use Rattle.code.specs.declared.rules.Rule.{Rule}
 use Rattle.code.specs.Rules.{broken}
-use Rattle.code.specs.Tests.{every}
+use Rattle.code.specs.Tests.{every, chosen}
 use Rattle.code.proofs.ReadyLaws.{runnable}
 use Rattle.image.specs.declared.rows.Row.{Row}
 use Rattle.image.specs.declared.view.Image.{Image}
 use Rattle.image.specs.declared.faults.ImageFault.{ImageFault}
-use Rattle.image.specs.declared.faults.ImageFault.TheVariants.{Header, Symbol as BadSymbol, Layout, Code}
+use Rattle.image.specs.declared.faults.ImageFault.TheVariants.{Header, Symbol as BadSymbol, Layout, Row as BadRow, Code}
 use Rattle.image.specs.Limits.{symbol_limit, clause_limit, code_limit}
 use Rattle.symbol_table.specs.Symbols.{Symbol}
 use Rattle.image.specs.Symbols.{symbol_words, symbol_of, symbols_of, after_symbols, symbol_fault, arity}
@@ -20,9 +21,6 @@ use Rattle.image.specs.Images.{Goods, arities, Proper, laid, ImageOf, OneImage, 
 use Rattle.image.proofs.SymbolLaws.{symbols_count}
 use Rattle.image.proofs.CutLaws.{Fit, Cut, no_fault, symbols_back, arities_back, symbols_cut, after_cut, cut_from, words_cut, fit_symbols, rows_length, rows_back, rows_cut}
 
-never : {A : Type 0} (e : ImageFault) (p : Parts) → Err e ≡ Ok p → A
-never e p h = let z : ◌≡◌ {A = ℕ} 0 1 = cc in absurd (omega arith)
-
 abbrev parts : List Symbol → List Row → List ℕ → Parts
 parts ss rs code = record { symbols = ss; rows = rs; code = code }
 
@@ -32,9 +30,9 @@ laid_out_parts : (raws : List (List ℕ)) (c k : ℕ) (ws : List ℕ) (ss : List
     → fitting (length ws) c k ≡ true → row_fault (length raws) k 0 rs ≡ None → code_fault ar code 0 rs ≡ None → laid_out raws c k ws ≡ Ok (parts ss rs code)
 laid_out_parts raws c k ws ss rs code ar er ec es ea f r q =
     cond-true (fitting (length ws) c k) _ _ f
-    ∙ ap₂ (λ (x : List Row) (y : List ℕ). unless Layout (row_fault (length raws) k 0 x) (unless (λ e. e) (code_fault (map arity raws) y 0 x) (Ok (parts (map symbol_of raws) x y)))) er ec
-    ∙ ap₂ (λ (x : List ℕ) (y : List Symbol). unless Layout (row_fault (length raws) k 0 rs) (unless (λ e. e) (code_fault x code 0 rs) (Ok (parts y rs code)))) ea es
-    ∙ ap₂ (λ (x : Option ℕ) (y : Option ImageFault). unless Layout x (unless (λ e. e) y (Ok (parts ss rs code)))) r q
+    ∙ ap₂ (λ (x : List Row) (y : List ℕ). unless BadRow (row_fault (length raws) k 0 x) (unless (λ e. e) (code_fault (map arity raws) y 0 x) (Ok (parts (map symbol_of raws) x y)))) er ec
+    ∙ ap₂ (λ (x : List ℕ) (y : List Symbol). unless BadRow (row_fault (length raws) k 0 rs) (unless (λ e. e) (code_fault x code 0 rs) (Ok (parts y rs code)))) ea es
+    ∙ ap₂ (λ (x : Option ℕ) (y : Option ImageFault). unless BadRow x (unless (λ e. e) y (Ok (parts ss rs code)))) r q
 
 fits : (c k n : ℕ) → n ≡ 3 * c + k → (c ≡ 0 → k ≡ 0) → fitting n c k ≡ true
 fits c k n e h = and_from (eqb n (3 * c + k)) (not (eqb c 0) || eqb k 0) (eq-eqb n (3 * c + k) e) (go (eqb c 0) refl)
@@ -72,7 +70,7 @@ accepts p h =
 -- from words to parts
 unless_ok : {X : Type 0} (fault : X → ImageFault) (o : Option X) (r : Result Parts ImageFault) (p : Parts) → unless fault o r ≡ Ok p → (o ≡ None) × (r ≡ Ok p)
 unless_ok fault None r p h = (refl, h)
-unless_ok fault (Some x) r p h = never (fault x) p h
+unless_ok fault (Some x) r p h = cc
 
 module _ (s c k : ℕ) (ws : List ℕ) (fit : Fit ws) (few_s : s ≤ symbol_limit) (few_c : c ≤ clause_limit) (few_k : k ≤ code_limit) (sound : symbol_fault [] (symbols_of s ws) ≡ None) where
   abbrev raws : List (List ℕ)
@@ -127,24 +125,24 @@ module _ (s c k : ℕ) (ws : List ℕ) (fit : Fit ws) (few_s : s ≤ symbol_limi
   laid_image p = go (fitting (length tail) c k) refl
     where
       go : (t : Bool) → fitting (length tail) c k ≡ t
-          → cond t (unless Layout (row_fault (length raws) k 0 (rows_of (take (3 * c) tail))) (unless (λ e. e) (code_fault (map arity raws) (drop (3 * c) tail) 0 (rows_of (take (3 * c) tail))) (Ok found))) (Err (Layout 0)) ≡ Ok p
+          → cond t (unless BadRow (row_fault (length raws) k 0 (rows_of (take (3 * c) tail))) (unless (λ e. e) (code_fault (map arity raws) (drop (3 * c) tail) 0 (rows_of (take (3 * c) tail))) (Ok found))) (Err Layout) ≡ Ok p
           → ImageOf (1 ∷ s ∷ c ∷ k ∷ ws) p
-      go false f h = never (Layout 0) p h
+      go false f h = cc
       go true f h =
-          let a = unless_ok Layout (row_fault (length raws) k 0 (rows_of (take (3 * c) tail))) _ p h in
+          let a = unless_ok BadRow (row_fault (length raws) k 0 (rows_of (take (3 * c) tail))) _ p h in
           let b = unless_ok (λ e. e) (code_fault (map arity raws) (drop (3 * c) tail) 0 (rows_of (take (3 * c) tail))) _ p a.1 in
           let is : found ≡ p = (let e = b.1 in cc) in
           subst (ImageOf (1 ∷ s ∷ c ∷ k ∷ ws)) is (image_of f a.0 b.0)
 
 pub accepted : (ws : List ℕ) (p : Parts) → Fit ws → checked ws ≡ Ok p → ImageOf ws p
-accepted [] p fit h = never Header p h
-accepted (f ∷ []) p fit h = never Header p h
-accepted (f ∷ s ∷ []) p fit h = never Header p h
-accepted (f ∷ s ∷ c ∷ []) p fit h = never Header p h
+accepted [] p fit h = cc
+accepted (f ∷ []) p fit h = cc
+accepted (f ∷ s ∷ []) p fit h = cc
+accepted (f ∷ s ∷ c ∷ []) p fit h = cc
 accepted (f ∷ s ∷ c ∷ k ∷ ws) p fit h = go (is_header f s c k) refl h
   where
     go : (t : Bool) → is_header f s c k ≡ t → cond t (body s c k ws) (Err Header) ≡ Ok p → ImageOf (f ∷ s ∷ c ∷ k ∷ ws) p
-    go false e h = never Header p h
+    go false e h = cc
     go true e h =
         let a = and_parts (eqb f 1) (leb s symbol_limit && (leb c clause_limit && leb k code_limit)) e in
         let b = and_parts (leb s symbol_limit) (leb c clause_limit && leb k code_limit) a.1 in
@@ -168,14 +166,11 @@ clause_runnable : (ar code : List ℕ) → every (λ a. leb a 8) ar ≡ true →
 clause_runnable ar code low [] i h j = tt
 clause_runnable ar code low (r ∷ rs) i h j = go (λ e. clause_runnable ar code low rs (i + 1) e) (broken ar r.predicate r.key (code_of code r (next (length code) rs))) refl h j
   where
-    go : (code_fault ar code (i + 1) rs ≡ None → (j : ℕ) → ClauseRunnable ar code rs j) → (v : ℕ) → broken ar r.predicate r.key (code_of code r (next (length code) rs)) ≡ v
-        → cond (eqb v 0) (code_fault ar code (i + 1) rs) (Some (Code (i + 1) v)) ≡ None → (j : ℕ) → ClauseRunnable ar code (r ∷ rs) j
-    go ih v e h j = by (eqb v 0) refl h j
-      where
-        by : (t : Bool) → eqb v 0 ≡ t → cond t (code_fault ar code (i + 1) rs) (Some (Code (i + 1) v)) ≡ None → (j : ℕ) → ClauseRunnable ar code (r ∷ rs) j
-        by true q h zero = runnable ar r.predicate r.key (code_of code r (next (length code) rs)) low (e ∙ eqb-true v 0 q)
-        by true q h (suc j) = ih h j
-        by false q h j = let z : ◌≡◌ {A = ℕ} 0 1 = cc in absurd (omega arith)
+    go : (code_fault ar code (i + 1) rs ≡ None → (j : ℕ) → ClauseRunnable ar code rs j) → (v : Option Rule) → broken ar r.predicate r.key (code_of code r (next (length code) rs)) ≡ v
+        → chosen v (λ rule. Some (Code (i + 1) rule)) (code_fault ar code (i + 1) rs) ≡ None → (j : ℕ) → ClauseRunnable ar code (r ∷ rs) j
+    go ih None e h zero = runnable ar r.predicate r.key (code_of code r (next (length code) rs)) low e
+    go ih None e h (suc j) = ih h j
+    go ih (Some v) e h j = cc
 
 pub clauses_runnable : (r : Result Image ImageFault) (ws : List ℕ) → Fit ws → said r ≡ checked ws → IfOk r (λ i. ClausesRunnable (parts_of i))
 clauses_runnable (Ok i) ws fit e =

@@ -4,7 +4,6 @@ pub mod SymbolLaws
 pub mod RowLaws
 pub mod CheckLaws
 pub mod SpellLaws
-pub mod NextLaws
 pub mod CutLaws
 pub mod ImageLaws
 pub mod DistinctLaws

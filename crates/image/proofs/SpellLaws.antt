@@ -1,6 +1,7 @@
 -- A symbol's words say that symbol and no other.
-use Rattle.std.proofs.Common.{◌≡◌, ℕ, zero, suc, ◌+◌, ◌*◌, ◌/◌, ◌%◌, ◌^◌, ◌<◌, ◌≤◌, true, false, ◌&&◌, ◌||◌, eqb, leb, List, [], ◌∷◌, ◌++◌, length, take, drop, sym, refl, ap, ◌∙◌, ap₂, ⊎_elim, arith}
+use Rattle.std.proofs.Common.{◌≡◌, ℕ, zero, suc, ◌+◌, ◌*◌, ◌/◌, ◌%◌, ◌^◌, ◌<◌, ◌≤◌, true, ◌&&◌, ◌||◌, eqb, leb, List, [], ◌∷◌, ◌++◌, length, take, drop, sym, refl, ap, ◌∙◌, ap₂, ⊎_elim, arith}
 use Rattle.std.specs.List.{AllByRecursion}
+use Rattle.std.proofs.lemmas.List.{take_at, drop_at, length-take-le}
 use Rattle.std.proofs.lemmas.Bool.{and_parts, and_from, or_cases, eqb-true, eq-eqb, leb-true, le-leb}
 use Rattle.lines.specs.Limits.{name_limit, arity_limit}
 use Rattle.lines.specs.Words.{lower, upper, digit, plain, namely, is_name}
@@ -10,7 +11,7 @@ use Rattle.symbol_table.specs.Symbols.{Symbol}
 use Rattle.image.specs.Symbols.{symbol_words, symbol_of, arity_of, size_of, name_words, proper}
 use Rattle.image.specs.Images.{Good}
 use Rattle.image.proofs.FileLaws.{whole}
-use Rattle.image.proofs.NameLaws.{zeros}
+use Rattle.image.proofs.NameLaws.{zeros, length_bytes}
 
 -- the bytes of a name
 between : (a b x : ℕ) → (leb a x && leb x b) ≡ true → b < 256 → x < 256
@@ -36,9 +37,6 @@ all_bytes : (f : List ℕ) → all namely f ≡ true → AllByRecursion (λ b. b
 all_bytes [] h = tt
 all_bytes (b ∷ bs) h = let p = and_parts (namely b) (all namely bs) h in (namely_byte b p.0, all_bytes bs p.1)
 
-pub never : {A : Type 0} → false ≡ true → A
-never e = let z : ◌≡◌ {A = ℕ} 0 1 = cc in absurd (omega arith)
-
 pub name_bytes_lem : (f : List ℕ) → is_name f ≡ true → AllByRecursion (λ b. b < 256) f
 name_bytes_lem [] h = tt
 name_bytes_lem (b ∷ bs) h =
@@ -47,7 +45,7 @@ name_bytes_lem (b ∷ bs) h =
     (between 97 122 b p.0 (omega arith), all_bytes bs q.1)
 
 pub name_short : (f : List ℕ) → is_name f ≡ true → length f ≤ name_limit
-name_short [] h = never h
+name_short [] h = cc
 name_short (b ∷ bs) h =
     let p = and_parts (lower b) (leb (suc (length bs)) name_limit && all namely bs) h in
     leb-true (suc (length bs)) name_limit (and_parts (leb (suc (length bs)) name_limit) (all namely bs) p.1).0
@@ -101,14 +99,6 @@ length_packed (a ∷ b ∷ []) = refl
 length_packed (a ∷ b ∷ c ∷ []) = refl
 length_packed (a ∷ b ∷ c ∷ d ∷ rest) = let ih = length_packed rest in omega arith
 
-take_front : (f g : List ℕ) → take (length f) (f ++ g) ≡ f
-take_front [] g = refl
-take_front (b ∷ f) g = ap (λ (l : List ℕ). b ∷ l) (take_front f g)
-
-drop_front : (f g : List ℕ) → drop (length f) (f ++ g) ≡ g
-drop_front [] g = refl
-drop_front (b ∷ f) g = drop_front f g
-
 -- words and their name
 nil_zeros : (ws : List ℕ) → suc (length ws) ≡ 1 → ws ≡ []
 nil_zeros [] h = refl
@@ -160,10 +150,10 @@ module _ (s : Symbol) (good : Good s) where
   bytes_are = bytes_packed s.name (name_bytes_lem s.name good.0)
 
   name_is : take (size_of (s.arity * 256 + length s.name)) (bytes_of (packed s.name)) ≡ s.name
-  name_is = ap₂ (λ (n : ℕ) (l : List ℕ). take n l) size_is bytes_are ∙ take_front s.name (padding s.name)
+  name_is = ap₂ (λ (n : ℕ) (l : List ℕ). take n l) size_is bytes_are ∙ take_at s.name (padding s.name) (length s.name) refl
 
   blank_is : drop (size_of (s.arity * 256 + length s.name)) (bytes_of (packed s.name)) ≡ padding s.name
-  blank_is = ap₂ (λ (n : ℕ) (l : List ℕ). drop n l) size_is bytes_are ∙ drop_front s.name (padding s.name)
+  blank_is = ap₂ (λ (n : ℕ) (l : List ℕ). drop n l) size_is bytes_are ∙ drop_at s.name (padding s.name) (length s.name) refl
 
   pub words_length : length (packed s.name) ≡ name_words (s.arity * 256 + length s.name)
   words_length = length_packed s.name ∙ ap (λ n. (n + 3) / 4) (sym size_is)
@@ -183,28 +173,19 @@ module _ (s : Symbol) (good : Good s) where
 
 -- proper words
 pub words_good : (x : List ℕ) → proper x ≡ true → Good (symbol_of x)
-words_good [] h = never h
+words_good [] h = cc
 words_good (w ∷ ws) h =
     let p = and_parts (leb (arity_of w) arity_limit && eqb (length ws) (name_words w)) (is_name (take (size_of w) (bytes_of ws)) && zeros (drop (size_of w) (bytes_of ws))) h in (
       (and_parts (is_name (take (size_of w) (bytes_of ws))) (zeros (drop (size_of w) (bytes_of ws))) p.1).0,
       leb-true (arity_of w) arity_limit (and_parts (leb (arity_of w) arity_limit) (eqb (length ws) (name_words w)) p.0).0,
     )
 
-length_take_front : (n : ℕ) (l : List ℕ) → n ≤ length l → length (take n l) ≡ n
-length_take_front zero l h = refl
-length_take_front (suc n) [] h = absurd (omega arith)
-length_take_front (suc n) (x ∷ l) h = ap suc (length_take_front n l (omega arith))
-
-long_bytes : (ws : List ℕ) → length (bytes_of ws) ≡ 4 * length ws
-long_bytes [] = refl
-long_bytes (w ∷ ws) = let ih = long_bytes ws in omega arith
-
 pub words_symbol : (x : List ℕ) → AllByRecursion (λ w. w < 2 ^ 32) x → proper x ≡ true → symbol_words (symbol_of x) ≡ x
-words_symbol [] f h = never h
+words_symbol [] f h = cc
 words_symbol (w ∷ ws) f h =
     let p = and_parts (leb (arity_of w) arity_limit && eqb (length ws) (name_words w)) (is_name (take (size_of w) (bytes_of ws)) && zeros (drop (size_of w) (bytes_of ws))) h in
     let n = eqb-true (length ws) (name_words w) (and_parts (leb (arity_of w) arity_limit) (eqb (length ws) (name_words w)) p.0).1 in
     let z = (and_parts (is_name (take (size_of w) (bytes_of ws))) (zeros (drop (size_of w) (bytes_of ws))) p.1).1 in
-    let size : length (take (size_of w) (bytes_of ws)) ≡ size_of w = length_take_front (size_of w) (bytes_of ws) (omega (arith, long_bytes ws)) in
+    let size : length (take (size_of w) (bytes_of ws)) ≡ size_of w = length-take-le (size_of w) (bytes_of ws) (omega (arith, length_bytes ws)) in
     let first : arity_of w * 256 + length (take (size_of w) (bytes_of ws)) ≡ w = omega arith in
     ap₂ ◌∷◌ first (packed_bytes ws (size_of w) f.1 n z)

@@ -1,9 +1,10 @@
 -- Symbols in turn.
-use Rattle.std.proofs.Common.{◌≡◌, ℕ, zero, suc, ◌+◌, ◌-◌, ◌<◌, ◌≤◌, Bool, true, false, cond, not, ◌&&◌, ◌||◌, eqb, ◌⊎◌, List, [], ◌∷◌, ◌++◌, map, length, get_or, take, drop, set, Some, sym, refl, ap, ◌∙◌, ap₂, inl, inr, add-one, arith, take_all}
-use Rattle.std.proofs.lemmas.List.{length-drop, drop_all, take-take, drop-take, at_drop_more, at_drop_all, take_rest, map-append, take_more_set}
+use Rattle.std.proofs.Common.{◌≡◌, ℕ, zero, suc, ◌+◌, ◌-◌, ◌<◌, ◌≤◌, Bool, true, false, cond, not, ◌&&◌, ◌||◌, eqb, ◌⊎◌, List, [], ◌∷◌, ◌++◌, map, length, take, drop, Some, sym, refl, ap, ◌∙◌, ap₂, inl, inr, add-one, arith, take_all}
+use Rattle.std.proofs.lemmas.List.{length-drop, drop_all, take-take, drop-take, map-append}
 use Rattle.std.proofs.lemmas.Bool.{cases_lt, cases_eq}
+use Rattle.std.specs.Cmp.Lexicographic.{pointwise}
 use Rattle.code.specs.Tests.{some}
-use Rattle.image.specs.Symbols.{extent, symbols_of, after_symbols, proper, same, symbol_fault, arity, name_words}
+use Rattle.image.specs.Symbols.{symbol_of, extent, symbols_of, after_symbols, proper, same, symbol_fault, arity}
 
 symbols_suc : (i : ℕ) (ws : List ℕ) → symbols_of (suc i) ws ≡ symbols_of i ws ++ (take (extent (after_symbols i ws)) (after_symbols i ws) ∷ [])
 symbols_suc zero ws = refl
@@ -22,15 +23,6 @@ after_more i ws = rw add-one (after_suc i ws)
 pub symbols_count : (i : ℕ) (ws : List ℕ) → length (symbols_of i ws) ≡ i
 symbols_count zero ws = refl
 symbols_count (suc i) ws = ap suc (symbols_count i (drop (extent ws) ws))
-
-pub drop_taken : (n : ℕ) (ws : List ℕ) → drop (length (take n ws)) ws ≡ drop n ws
-drop_taken zero ws = refl
-drop_taken (suc n) [] = refl
-drop_taken (suc n) (w ∷ ws) = drop_taken n ws
-
--- what is left after the first symbol x of `left`
-pub left_is : (left x : List ℕ) → x ≡ take (extent left) left → take (length left - length x) (drop (length x) left) ≡ drop (extent left) left
-left_is left x e = take_rest left (length x) ∙ ap (λ (l : List ℕ). drop (length l) left) e ∙ drop_taken (extent left) left
 
 module _ (left : List ℕ) (count i : ℕ) (lt : i < count) (x : List ℕ) (is : x ≡ take (extent left) left) where
   pub first_of : symbols_of (count - i) left ≡ x ∷ symbols_of (count - (i + 1)) (drop (extent left) left)
@@ -61,45 +53,28 @@ module _ (left : List ℕ) (count i : ℕ) (lt : i < count) (x : List ℕ) (is :
         grown : left ≡ after_symbols i words → symbols_of (i + 1) words ≡ symbols_of i words ++ x ∷ []
         grown a = symbols_more i words ∙ ap (λ (l : List ℕ). symbols_of i words ++ (take (extent l) l ∷ [])) (sym a) ∙ ap (λ (l : List ℕ). symbols_of i words ++ l ∷ []) (sym is)
 
-    pub arities_next : (arities : List ℕ) → left ≡ after_symbols i words → i < length arities → take i arities ≡ map arity (symbols_of i words)
-        → take (i + 1) (set arities i (arity x)) ≡ map arity (symbols_of (i + 1) words)
-    arities_next arities a h e =
-        take_more_set arities i (arity x) h
-        ∙ ap (λ (l : List ℕ). l ++ arity x ∷ []) e
+    pub arities_next : (arities : List ℕ) → left ≡ after_symbols i words → arities ≡ map arity (symbols_of i words) → arities ++ arity x ∷ [] ≡ map arity (symbols_of (i + 1) words)
+    arities_next arities a e =
+        ap (λ (l : List ℕ). l ++ arity x ∷ []) e
         ∙ sym (map-append arity (symbols_of i words) (x ∷ []))
         ∙ ap (map arity) (sym (symbols_more i words ∙ ap (λ (l : List ℕ). symbols_of i words ++ (take (extent l) l ∷ [])) (sym a) ∙ ap (λ (l : List ℕ). symbols_of i words ++ l ∷ []) (sym is)))
 
+-- a symbol's arity is that of its words
+pub same_arity : (x : List ℕ) → (symbol_of x).arity ≡ arity x
+same_arity [] = refl
+same_arity (w ∷ ws) = refl
+
 -- whether the words are the same
-pub same_lengths : (xs ys : List ℕ) → (length xs ≡ length ys → ⊥) → same xs ys ≡ false
-same_lengths [] [] h = absurd (h refl)
-same_lengths [] (y ∷ ys) h = refl
-same_lengths (x ∷ xs) [] h = refl
-same_lengths (x ∷ xs) (y ∷ ys) h = go (same_lengths xs ys (λ e. h (ap suc e))) (eqb x y)
-  where
-    go : same xs ys ≡ false → (t : Bool) → (t && same xs ys) ≡ false
-    go e true = e
-    go e false = refl
-
-pub same_turn : (xs ys : List ℕ) (i : ℕ) (t : Bool) → i < length xs → i < length ys → t ≡ eqb (get_or xs i 0) (get_or ys i 0) → same (drop i xs) (drop i ys) ≡ (t && same (drop (i + 1) xs) (drop (i + 1) ys))
-same_turn xs ys i t h k e =
-    at_drop_more (λ l. same l (drop i ys)) xs i 0 h
-    ∙ at_drop_more (same (get_or xs i 0 ∷ drop (i + 1) xs)) ys i 0 k
-    ∙ ap (λ t. t && same (drop (i + 1) xs) (drop (i + 1) ys)) (sym e)
-
-pub same_end : (xs ys : List ℕ) (i : ℕ) → length xs ≤ i → length ys ≤ i → same (drop i xs) (drop i ys) ≡ true
-same_end xs ys i h k = at_drop_all (λ l. same l (drop i ys)) xs i h ∙ at_drop_all (same []) ys i k
-
-pub take_whole : (ws : List ℕ) → 0 < length ws → length ws < 1 + name_words (get_or ws 0 0) → ws ≡ take (extent ws) ws
-take_whole [] h k = absurd (omega arith)
-take_whole (w ∷ ws) h k = sym (take_all (1 + name_words w) (w ∷ ws) (omega arith))
+pub same_words : (xs ys : List ℕ) → pointwise eqb xs ys ≡ same xs ys
+same_words [] [] = refl
+same_words [] (y ∷ ys) = refl
+same_words (x ∷ xs) [] = refl
+same_words (x ∷ xs) (y ∷ ys) = ap (λ t. eqb x y && t) (same_words xs ys)
 
 -- the loop of `repeats`
 module _ (left : List ℕ) (count i : ℕ) (lt : i < count) (x y : List ℕ) (is : y ≡ take (extent left) left) where
   pub some_turn : (t : Bool) → t ≡ same x y → some (same x) (symbols_of (count - i) left) ≡ (t || some (same x) (symbols_of (count - (i + 1)) (drop (extent left) left)))
   some_turn t e = ap (some (same x)) (first_of left count i lt y is) ∙ ap (λ t. t || some (same x) (symbols_of (count - (i + 1)) (drop (extent left) left))) (sym e)
-
-pub none_left : (left : List ℕ) (count i : ℕ) → count ≤ i → symbols_of (count - i) left ≡ []
-none_left left count i h = let e : count - i ≡ 0 = omega arith in ap (λ n. symbols_of n left) e
 
 -- the words of the symbols alone
 after_none : (n : ℕ) → after_symbols n [] ≡ []

@@ -1,9 +1,10 @@
 -- What the image check answers: the parts of an image, or its first fault.
 use Rattle.std.specs.Prelude.{ℕ, ◌+◌, ◌*◌, Bool, cond, not, ◌&&◌, ◌||◌, List, [], ◌∷◌, map, length, take, drop, Some, None, Ok, Err, Option, Result, ◌==◌, nat_le}
 use Rattle.code.specs.Rules.{broken}
+use Rattle.code.specs.Tests.{chosen}
 use Rattle.image.specs.declared.rows.Row.{Row}
 use Rattle.image.specs.declared.faults.ImageFault.{ImageFault}
-use Rattle.image.specs.declared.faults.ImageFault.TheVariants.{Header, Symbol as BadSymbol, Layout, Code}
+use Rattle.image.specs.declared.faults.ImageFault.TheVariants.{Header, Symbol as BadSymbol, Layout, Row as BadRow, Code}
 use Rattle.image.specs.Limits.{symbol_limit, clause_limit, code_limit}
 use Rattle.symbol_table.specs.Symbols.{Symbol}
 use Rattle.image.specs.Symbols.{symbol_of, symbols_of, after_symbols, symbol_fault, arity}
@@ -23,8 +24,7 @@ unless fault None r = r
 abbrev pub code_fault : List ℕ → List ℕ → ℕ → List Row → Option ImageFault
 code_fault arities code i [] = None
 code_fault arities code i (r ∷ rs) =
-    let rule = broken arities r.predicate r.key (code_of code r (next (length code) rs)) in
-    cond (rule == 0) (code_fault arities code (i + 1) rs) (Some (Code (i + 1) rule))
+    chosen (broken arities r.predicate r.key (code_of code r (next (length code) rs))) (λ rule. Some (Code (i + 1) rule)) (code_fault arities code (i + 1) rs)
 
 -- as many words as c rows and k code words take, and no code without a clause
 abbrev pub fitting : ℕ → ℕ → ℕ → Bool
@@ -36,10 +36,10 @@ laid_out symbols c k ws =
     let rows = rows_of (take (3 * c) ws) in
     let code = drop (3 * c) ws in
     cond (fitting (length ws) c k)
-    (unless Layout (row_fault (length symbols) k 0 rows)
+    (unless BadRow (row_fault (length symbols) k 0 rows)
     (unless (λ e. e) (code_fault (map arity symbols) code 0 rows)
     (Ok (record { symbols = map symbol_of symbols; rows = rows; code = code }))))
-    (Err (Layout 0))
+    (Err Layout)
 
 -- the words after the header
 abbrev pub body : ℕ → ℕ → ℕ → List ℕ → Result Parts ImageFault

@@ -3,6 +3,7 @@ pub mod Bytes
 pub mod Symbols
 pub mod Rows
 pub mod Checked
+pub mod Headers
 pub mod Said
 pub mod Images
 pub mod Programs

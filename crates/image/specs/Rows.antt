@@ -1,5 +1,5 @@
 -- The rows of an image: a clause's predicate, its key, and where its code starts.
-use Rattle.std.specs.Prelude.{ℕ, zero, suc, ◌+◌, ◌-◌, ◌*◌, Bool, cond, not, ◌&&◌, ◌||◌, List, [], ◌∷◌, take, drop, Some, None, Option, ◌==◌, nat_le, nat_lt, slice_index}
+use Rattle.std.specs.Prelude.{ℕ, zero, suc, ◌+◌, ◌-◌, Bool, cond, not, ◌&&◌, ◌||◌, List, [], ◌∷◌, take, drop, Some, None, Option, ◌==◌, nat_le, nat_lt, slice_index}
 use Rattle.image.specs.declared.rows.Row.{Row}
 
 abbrev pub row : ℕ → ℕ → ℕ → Row
@@ -7,6 +7,10 @@ row p k s = record { predicate = p; key = k; start = s }
 
 abbrev pub row_words : Row → List ℕ
 row_words r = r.predicate ∷ r.key ∷ r.start ∷ []
+
+-- the row that three words are
+abbrev pub row_of : List ℕ → Row
+row_of ws = row (slice_index ws 0) (slice_index ws 1) (slice_index ws 2)
 
 -- three words to a row
 abbrev pub rows_of : List ℕ → List Row
@@ -34,13 +38,6 @@ good_row symbols i r end =
 abbrev pub row_fault : ℕ → ℕ → ℕ → List Row → Option ℕ
 row_fault symbols size i [] = None
 row_fault symbols size i (r ∷ rs) = cond (good_row symbols i r (next size rs)) (row_fault symbols size (i + 1) rs) (Some (i + 1))
-
--- the same by number
-abbrev pub row_at : List ℕ → ℕ → Row
-row_at ws i = row (slice_index ws (3 * i)) (slice_index ws (3 * i + 1)) (slice_index ws (3 * i + 2))
-
-abbrev pub next_at : ℕ → ℕ → List ℕ → ℕ → ℕ
-next_at size count ws i = cond (i + 1 == count) size (row_at ws (i + 1)).start
 
 -- row i, if there is one
 abbrev pub nth : List Row → ℕ → Option Row

@@ -1,11 +1,11 @@
 -- What an accepted image holds.
-use Rattle.std.specs.Prelude.{ℕ, List, map, take, Ok, Err, Result}
+use Rattle.std.specs.Prelude.{◌≡◌, ℕ, false, List, map, take, drop, Ok, Err, Option, Result, MatchOption}
 use Rattle.image.specs.declared.view.Image.{Image}
-use Rattle.image.specs.declared.symbol.Symbol.{Symbol}
+use Rattle.symbol_table.specs.declared.table.Symbol.{Symbol}
 use Rattle.image.specs.declared.symbols.Symbols.{Symbols}
 use Rattle.image.specs.declared.faults.ImageFault.{ImageFault}
-use Rattle.symbol_table.specs.Symbols.{Symbol as ImageSymbol}
-use Rattle.image.specs.Symbols.{symbol_of, extent, symbols_of}
+use Rattle.symbol_table.specs.Tables.{symbol_of as held}
+use Rattle.image.specs.Symbols.{symbol_of, extent, symbols_of, proper}
 use Rattle.image.specs.Rows.{rows_of}
 use Rattle.image.specs.Checked.{Parts}
 
@@ -16,9 +16,11 @@ parts_of i = record { symbols = map symbol_of (symbols_of i.symbol_count i.symbo
 abbrev pub next_words : Symbols → List ℕ
 next_words s = take (extent s.words.now) s.words.now
 
--- the symbol that is held
-abbrev pub symbol_in : Symbol → ImageSymbol
-symbol_in s = record { name = take s.len s.name; arity = s.arity }
+-- the next symbol and the words after it, or none and the same words where they begin with none
+abbrev pub GivesNext : Symbols → Option Symbol → Symbols → Type 0
+GivesNext s r t =
+    MatchOption r (proper (next_words s) ≡ false) (λ x. held x ≡ symbol_of (next_words s))
+    × MatchOption r (t.words.now ≡ s.words.now) (λ _. t.words.now ≡ drop (extent s.words.now) s.words.now)
 
 abbrev pub said : Result Image ImageFault → Result Parts ImageFault
 said (Ok i) = Ok (parts_of i)

@@ -1,118 +1,51 @@
 // The check of an image.
-ghost use Rattle.std.specs.Prelude.{◌≡◌, ◌≤◌, true, map, IfOk, nat_le};
-ghost use Rattle.lines.specs.Limits.{arity_limit};
-ghost use Rattle.code.specs.Tests.{every};
-ghost use Rattle.image.specs.Limits.{symbol_limit, clause_limit, code_limit};
+ghost use Rattle.std.specs.Prelude.{◌≡◌, map, IfOk};
 ghost use Rattle.image.specs.Symbols.{symbols_of, arity};
-ghost use Rattle.image.specs.Checked.{is_header, fitting, laid_out, body, checked};
+ghost use Rattle.image.specs.Checked.{laid_out, body, checked};
 ghost use Rattle.image.specs.Said.{said, parts_of};
 ghost use Rattle.image.specs.Images.{OneImage, ClausesRunnable};
 ghost use Rattle.image.specs.Programs.{Distinct};
 
 use crate::clauses::check_code;
 use crate::faults::ImageFault;
+use crate::header::Header;
 use crate::rows::check_rows;
 use crate::symbols::check_symbols;
 use crate::view::Image;
 
-// The format of images.
-const FORMAT: u32 = 1;
-
-// The symbols, clauses and code words of an image, at most.
-const SYMBOL_LIMIT: usize = 256;
-
-const CLAUSE_LIMIT: usize = 256;
-
-const CODE_LIMIT: usize = 8192;
-
-// Whether the format is right and no count is above its limit.
-fn is_header(format: u32, symbols: usize, clauses: usize, size: usize) -> bool
-    ensures { result ≡ is_header format symbols clauses size }
-{
-    if format != FORMAT {
-        return false;
-    }
-    if symbols > SYMBOL_LIMIT {
-        return false;
-    }
-    if clauses > CLAUSE_LIMIT {
-        return false;
-    }
-    size <= CODE_LIMIT
-}
-
-// Whether so many words are left for the rows and the code.
-fn is_fitting(len: usize, clauses: usize, size: usize) -> bool
-    requires few { clauses ≤ clause_limit }
-    requires small { size ≤ code_limit }
-    ensures { result ≡ fitting len clauses size }
-{
-    if len != 3 * clauses + size {
-        return false;
-    }
-    if clauses != 0 {
-        return true;
-    }
-    size == 0
-}
-
-// The rows and the code, `left`, after the symbols, of which these are the words.
+// The rows and the code, `rest`, after the words of the symbols.
 fn check_layout<'a>(
-    words: &'a [u32],
-    symbols: usize,
-    left: &'a [u32],
-    clauses: usize,
-    size: usize,
+    header: Header,
+    symbols: &'a [u32],
+    rest: &'a [u32],
     arities: &[u8],
 ) -> Result<Image<'a>, ImageFault>
-    requires few { clauses ≤ clause_limit }
-    requires small { size ≤ code_limit }
-    requires arities { arities.now ≡ map arity (symbols_of symbols words.now) }
-    requires low { every (λ a. nat_le a arity_limit) arities.now ≡ true }
-    ensures { said result ≡ laid_out (symbols_of symbols words.now) clauses size left.now }
+    requires { arities.now ≡ map arity (symbols_of header.symbols symbols.now) }
+    ensures { said result ≡ laid_out (symbols_of header.symbols symbols.now) header.clauses header.size rest.now }
 {
-    if !is_fitting(left.len(), clauses, size) {
-        return Err(ImageFault::Layout { place: 0 });
+    if !header.fits(rest.len()) {
+        return Err(ImageFault::Layout);
     }
-    let rows = &left[0..3 * clauses];
-    let code = &left[3 * clauses..];
-    if let Some(place) = check_rows(rows, clauses, symbols, size) {
-        return Err(ImageFault::Layout { place });
-    }
-    if let Some(fault) = check_code(rows, clauses, code, arities) {
-        return Err(fault);
-    }
-    Ok(Image {
-        symbol_count: symbols,
-        symbols: words,
+    let (rows, code) = rest.split_at(3 * header.clauses);
+    let image = Image {
+        symbol_count: header.symbols,
+        symbols,
         rows,
         code,
-    })
+    };
+    let table = image.rows();
+    check_rows(table, header.symbols, header.size)?;
+    check_code(table, code, arities)?;
+    Ok(image)
 }
 
 // The words after the header.
-fn check_body<'a>(
-    words: &'a [u32],
-    symbols: usize,
-    clauses: usize,
-    size: usize,
-) -> Result<Image<'a>, ImageFault>
-    requires some { symbols ≤ symbol_limit }
-    requires few { clauses ≤ clause_limit }
-    requires small { size ≤ code_limit }
-    ensures { said result ≡ body symbols clauses size words.now }
+fn check_body<'a>(header: Header, words: &'a [u32]) -> Result<Image<'a>, ImageFault>
+    ensures { said result ≡ body header.symbols header.clauses header.size words.now }
 {
-    let mut arities: [u8; SYMBOL_LIMIT] = [0; SYMBOL_LIMIT];
-    let left = check_symbols(words, symbols, &mut arities[..])?;
-    let count = words.len() - left.len();
-    check_layout(
-        &words[0..count],
-        symbols,
-        left,
-        clauses,
-        size,
-        &arities[0..symbols],
-    )
+    let (arities, rest) = check_symbols(words, header.symbols)?;
+    let (symbols, _) = words.split_at(words.len() - rest.len());
+    check_layout(header, symbols, rest, arities.as_slice())
 }
 
 fn check_words<'a>(words: &'a [u32]) -> Result<Image<'a>, ImageFault>
@@ -121,15 +54,8 @@ fn check_words<'a>(words: &'a [u32]) -> Result<Image<'a>, ImageFault>
     let [format, symbols, clauses, size, rest @ ..] = words else {
         return Err(ImageFault::Header);
     };
-    if !is_header(
-        *format,
-        *symbols as usize,
-        *clauses as usize,
-        *size as usize,
-    ) {
-        return Err(ImageFault::Header);
-    }
-    check_body(rest, *symbols as usize, *clauses as usize, *size as usize)
+    let header = Header::try_from([*format, *symbols, *clauses, *size])?;
+    check_body(header, rest)
 }
 
 // The image that the words are, or the first fault.

@@ -2,29 +2,33 @@
 ghost use Rattle.std.specs.Prelude.{◌≡◌};
 ghost use Rattle.image.specs.Refusals.{image_refusal};
 
+use code::Rule;
 use lines::Refusal;
 
-#[derive(Clone, Copy)]
+#[derive(Clone, Copy, PartialEq, Eq)]
 pub enum ImageFault {
     // too few words, another format, or a count above its limit
     Header,
     // a symbol, from 0, that is cut off, has a wrong arity or name, or repeats an earlier one
     Symbol { place: usize },
-    // the number of words, or the row of a clause, from 1
-    Layout { place: usize },
+    // another number of words after the symbols than the header says, or code and no clause
+    Layout,
+    // the row of a clause, from 1
+    Row { clause: usize },
     // a clause, from 1, whose code breaks a rule
-    Code { clause: usize, rule: u8 },
+    Code { clause: usize, rule: Rule },
 }
 
-impl ImageFault {
-    pub fn refusal(self) -> Refusal
-        ensures { result ≡ image_refusal self }
-    {
-        let (number, place, rule) = match self {
+impl From<ImageFault> for Refusal {
+    ghost from_gives = { λ e r. r ≡ image_refusal e };
+
+    fn from(fault: ImageFault) -> Refusal {
+        let (number, place, rule) = match fault {
             ImageFault::Header => (12, 0, 0),
             ImageFault::Symbol { place } => (13, place, 0),
-            ImageFault::Layout { place } => (14, place, 0),
-            ImageFault::Code { clause, rule } => (15, clause, rule),
+            ImageFault::Layout => (14, 0, 0),
+            ImageFault::Row { clause } => (14, clause, 0),
+            ImageFault::Code { clause, rule } => (15, clause, rule.number()),
         };
         Refusal {
             number,

@@ -11,8 +11,7 @@ pub fn to_bytes(heap: Global, words: &[u32]) -> Result<Vec<u8>, AllocError>
 {
     let mut out = Vec::new(heap);
     for w in words {
-        let bytes = w.to_le_bytes();
-        out.extend_from_slice(&bytes)?;
+        out.extend_from_slice(&w.to_le_bytes())?;
     }
     Ok(out)
 }
@@ -21,11 +20,6 @@ pub fn to_bytes(heap: Global, words: &[u32]) -> Result<Vec<u8>, AllocError>
 pub fn to_words(heap: Global, bytes: &[u8]) -> Result<Vec<u32>, AllocError>
     ensures { IfOk result (λ v. v.items ≡ words_of bytes.now) }
 {
-    let mut out = Vec::new(heap);
-    let mut left = bytes;
-    while let [a, b, c, d, rest @ ..] = left {
-        out.push(u32::from_le_bytes([*a, *b, *c, *d]))?;
-        left = rest;
-    }
-    Ok(out)
+    let (words, _) = bytes.as_chunks::<4>();
+    words.iter().map(|w| u32::from_le_bytes(*w)).collect(heap)
 }

@@ -1,69 +1,63 @@
 // The rows of an image.
-ghost use Rattle.std.specs.Prelude.{◌≡◌, ◌+◌, ◌*◌, ◌^◌, ◌<◌, ◌≤◌, length};
-ghost use Rattle.image.specs.Limits.{clause_limit};
-ghost use Rattle.image.specs.Rows.{rows_of, row_at, next_at, good_row, row_fault};
+ghost use Rattle.std.specs.Prelude.{◌≡◌, map};
+ghost use Rattle.std.specs.Option.{option_map};
+ghost use Rattle.image.specs.declared.faults.ImageFault.TheVariants.{Row as BadRow};
+ghost use Rattle.image.specs.Rows.{row_of, next, good_row, row_fault};
+ghost use Rattle.image.specs.Symbols.{err_part};
 
-// A clause's predicate, its key, and where its code starts.
-#[derive(Clone, Copy)]
+use crate::faults::ImageFault;
+
+// A clause's predicate, its key, and where its code starts. A key is what an image's word has: 0, or 1 + a symbol.
+#[derive(Clone, Copy, PartialEq, Eq)]
 pub struct Row {
     pub predicate: usize,
     pub key: usize,
     pub start: usize,
 }
 
-// Row i, from 0.
-pub(crate) fn row_at(rows: &[u32], i: usize) -> Row
-    requires { 3 * i + 3 ≤ length rows.now }
-    ensures { result ≡ row_at rows.now i }
-{
-    Row {
-        predicate: rows[3 * i] as usize,
-        key: rows[3 * i + 1] as usize,
-        start: rows[3 * i + 2] as usize,
-    }
-}
+impl From<[u32; 3]> for Row {
+    ghost from_gives = { λ words r. r ≡ row_of words };
 
-// Where the code of row i ends, of `count` rows and `size` code words.
-pub(crate) fn end_at(rows: &[u32], i: usize, count: usize, size: usize) -> usize
-    requires count { length rows.now ≡ 3 * count }
-    requires within { i < count }
-    ensures { result ≡ next_at size count rows.now i }
-{
-    if i + 1 == count {
-        return size;
-    }
-    row_at(rows, i + 1).start
-}
-
-// Whether row i is right, where its code ends at `end`: predicate and key in range, the first start 0, two words or more.
-fn is_good(row: Row, i: usize, symbols: usize, end: usize) -> bool
-    requires { row.start < 2 ^ 32 }
-    ensures { result ≡ good_row symbols i row end }
-{
-    if row.predicate >= symbols {
-        return false;
-    }
-    if row.key > symbols {
-        return false;
-    }
-    if i == 0 && row.start != 0 {
-        return false;
-    }
-    row.start + 2 <= end
-}
-
-// The lowest clause, from 1, whose row is wrong.
-pub(crate) fn check_rows(rows: &[u32], count: usize, symbols: usize, size: usize) -> Option<usize>
-    requires count { length rows.now ≡ 3 * count }
-    requires few { count ≤ clause_limit }
-    ensures { result ≡ row_fault symbols size 0 (rows_of rows.now) }
-{
-    for i in 0..count {
-        let row = row_at(rows, i);
-        let end = end_at(rows, i, count, size);
-        if !is_good(row, i, symbols, end) {
-            return Some(i + 1);
+    fn from([predicate, key, start]: [u32; 3]) -> Row {
+        Row {
+            predicate: predicate as usize,
+            key: key as usize,
+            start: start as usize,
         }
     }
-    None
+}
+
+impl Row {
+    // Whether row i is right, where its code ends at `end`: predicate and key in range, the first start 0, two words or more.
+    fn is_good(self, i: usize, symbols: usize, end: usize) -> bool
+        ensures { result ≡ good_row symbols i self end }
+    {
+        self.predicate < symbols
+            && self.key <= symbols
+            && (i != 0 || self.start == 0)
+            && end.saturating_sub(self.start) >= 2
+    }
+}
+
+// Where the code before these rows ends, of `size` code words.
+pub(crate) fn end_before(rows: &[[u32; 3]], size: usize) -> usize
+    ensures { result ≡ next size (map row_of rows.now) }
+{
+    match rows {
+        [[_, _, start], ..] => *start as usize,
+        [] => size,
+    }
+}
+
+// The lowest clause, from 1, whose row is wrong is refused.
+pub(crate) fn check_rows(rows: &[[u32; 3]], symbols: usize, size: usize) -> Result<(), ImageFault>
+    ensures { err_part result ≡ option_map BadRow (row_fault symbols size 0 (map row_of rows.now)) }
+{
+    for (i, words) in rows.iter().enumerate() {
+        let end = end_before(&rows[i + 1..], size);
+        if !Row::from(*words).is_good(i, symbols, end) {
+            return Err(ImageFault::Row { clause: i + 1 });
+        }
+    }
+    Ok(())
 }

@@ -1,19 +1,19 @@
 // The symbols of an image.
-ghost use Rattle.std.specs.Prelude.{◌≡◌, ◌-◌, ◌*◌, ◌≤◌, true, false, [], ◌++◌, map, length, take, drop, replicate, IfOk, MatchOption, nat_eq};
+ghost use Rattle.std.specs.Prelude.{◌≡◌, ◌≤◌, true, false, [], map, length, take, drop, IfOk, MatchOption, nat_eq};
 ghost use Rattle.std.specs.Option.{option_map};
-ghost use Rattle.code.specs.Tests.{every, some};
+ghost use Rattle.std.specs.List.{list_all};
+ghost use Rattle.code.specs.Tests.{some};
 ghost use Rattle.image.specs.declared.faults.ImageFault.TheVariants.{Symbol as BadSymbol};
+ghost use Rattle.image.specs.Limits.{symbol_limit};
 ghost use Rattle.image.specs.Bytes.{bytes_of};
-ghost use Rattle.image.specs.Said.{next_words, symbol_in};
+ghost use Rattle.symbol_table.specs.Tables.{symbol_of as held};
 ghost use Rattle.image.specs.Symbols.{symbol_of, extent, symbols_of, after_symbols, proper, symbol_fault, arity, err_part};
 ghost use Rattle.image.specs.Symbols.{same as alike};
 
 use crate::faults::ImageFault;
-use crate::symbol::Symbol;
-use lines::{NAME_LIMIT, is_name};
-
-// The arity of a symbol, at most.
-const ARITY_LIMIT: u32 = 8;
+use arrayvec::ArrayVec;
+use lines::{ARITY_LIMIT, NAME_LIMIT, is_name};
+use symbol_table::{SYMBOL_LIMIT, Symbol};
 
 // The symbols at the front of some words.
 #[derive(Clone, Copy)]
@@ -21,151 +21,113 @@ pub struct Symbols<'a> {
     pub(crate) words: &'a [u32],
 }
 
-impl<'a> Symbols<'a> {
+impl Iterator for Symbols<'_> {
+    ghost use Rattle.image.specs.Said.{GivesNext};
+    ghost use Rattle.std.specs.Iterator.{at_most};
+
+    type Item = Symbol;
+
+    ghost next_gives = { GivesNext };
+
+    ghost remaining = { λ s. at_most (length s.words.now) };
+
     // The next symbol, or none where the words begin with none.
-    pub fn next_symbol(&mut self) -> Option<Symbol>
-        ensures value { MatchOption result (proper (next_words self.old) ≡ false) (λ s. symbol_in s ≡ symbol_of (next_words self.old)) }
-        ensures after { MatchOption result (self.new.words.now ≡ self.old.words.now) (λ _. self.new.words.now ≡ drop (extent self.old.words.now) self.old.words.now) }
-    {
-        let words = first_symbol(self.words);
-        if !is_proper(words) {
-            return None;
-        }
-        let name = name_bytes(&words[1..]);
-        let len = (words[0] % 256) as usize;
-        let arity = arity_in(words);
-        self.words = &self.words[words.len()..];
-        Some(Symbol { name, len, arity })
+    fn next(&mut self) -> Option<Symbol> {
+        let (words, rest) = split_symbol(self.words);
+        let symbol = read_symbol(words)?;
+        self.words = rest;
+        Some(symbol)
     }
 }
 
-// The bytes of a name's words, with zeros after them.
-fn name_bytes(words: &[u32]) -> [u8; 32]
-    requires { length words.now ≤ 8 }
-    ensures { result ≡ bytes_of words.now ++ replicate (32 - 4 * length words.now) 0 }
+// The words of the first symbol, and those after them. How many they are stands in the first word,
+// so that symbols are cut off one after another.
+fn split_symbol<'a>(words: &'a [u32]) -> (&'a [u32], &'a [u32])
+    ensures symbol { result.0.now ≡ take (extent words.now) words.now }
+    ensures rest { result.1.now ≡ drop (extent words.now) words.now }
 {
-    let mut out: [u8; 32] = [0; 32];
-    for (i, w) in words.iter().enumerate() {
-        let bytes = w.to_le_bytes();
-        out[4 * i] = bytes[0];
-        out[4 * i + 1] = bytes[1];
-        out[4 * i + 2] = bytes[2];
-        out[4 * i + 3] = bytes[3];
+    let [word, ..] = words else {
+        return (words, words);
+    };
+    let len = 1 + (*word % 256).div_ceil(4) as usize;
+    words.split_at(len.min(words.len()))
+}
+
+// The bytes of a name's words.
+fn name_bytes(words: &[u32]) -> ArrayVec<u8, 32>
+    requires { length words.now ≤ 8 }
+    ensures { result.items ≡ bytes_of words.now }
+{
+    let mut bytes = ArrayVec::new();
+    for word in words {
+        bytes.try_extend_from_slice(&word.to_le_bytes()).unwrap();
     }
-    out
+    bytes
 }
 
 // Whether all bytes are 0.
 fn is_blank(bytes: &[u8]) -> bool
-    ensures { result ≡ every (λ b. nat_eq b 0) bytes.now }
+    ensures { result ≡ list_all (λ b. nat_eq b 0) bytes.now }
 {
-    for b in bytes {
-        if *b != 0 {
-            return false;
-        }
-    }
-    true
+    bytes.iter().all(|b| *b == 0)
 }
 
-// The words of the first symbol.
-fn first_symbol<'a>(words: &'a [u32]) -> &'a [u32]
-    ensures value { result.now ≡ take (extent words.now) words.now }
-    ensures within { length result.now ≤ length words.now }
+// The symbol that the words are: not cut off, arity and name right, zeros after the name.
+fn read_symbol(words: &[u32]) -> Option<Symbol>
+    ensures { MatchOption result (proper words.now ≡ false) (λ s. (proper words.now ≡ true) × (held s ≡ symbol_of words.now)) }
 {
-    let [word, ..] = words else {
-        return words;
+    let [first, name @ ..] = words else {
+        return None;
     };
-    let n = 1 + (*word % 256 + 3) as usize / 4;
-    if n > words.len() {
-        return words;
-    }
-    &words[0..n]
-}
-
-// Whether the words are a symbol: not cut off, arity and name right, zeros after the name.
-fn is_proper(symbol: &[u32]) -> bool
-    ensures { result ≡ proper symbol.now }
-{
-    let [word, name @ ..] = symbol else {
-        return false;
-    };
-    let size = (*word % 256) as usize;
-    if *word / 256 > ARITY_LIMIT {
-        return false;
-    }
-    if name.len() != (size + 3) / 4 {
-        return false;
-    }
-    if size > NAME_LIMIT {
-        return false;
+    let size = (*first % 256) as usize;
+    let arity = *first / 256;
+    if arity > ARITY_LIMIT as u32 || name.len() != size.div_ceil(4) || size > NAME_LIMIT {
+        return None;
     }
     let bytes = name_bytes(name);
-    if !is_name(&bytes[0..size]) {
-        return false;
+    let (name, after) = bytes.as_slice().split_at(size);
+    if !is_name(name) || !is_blank(after) {
+        return None;
     }
-    is_blank(&bytes[size..])
+    Some(Symbol::new(name, arity as u8))
 }
 
-// Whether the words are the same.
-fn same(a: &[u32], b: &[u32]) -> bool
-    ensures { result ≡ alike a.now b.now }
-{
-    if a.len() != b.len() {
-        return false;
-    }
-    for i in 0..a.len() {
-        if a[i] != b[i] {
-            return false;
-        }
-    }
-    true
-}
-
-// Whether the symbol is one of the first `count`.
+// Whether the symbol is one of the first `count`, which are cut off one after another, as at `split_symbol`.
 fn repeats(words: &[u32], count: usize, symbol: &[u32]) -> bool
     ensures { result ≡ some (alike symbol.now) (symbols_of count words.now) }
 {
     let mut left = words;
-    for i in 0..count {
-        let other = first_symbol(left);
-        if same(symbol, other) {
+    for _ in 0..count {
+        let (other, rest) = split_symbol(left);
+        if symbol == other {
             return true;
         }
-        left = &left[other.len()..];
+        left = rest;
     }
     false
 }
 
-// The arity of a symbol.
-fn arity_in(symbol: &[u32]) -> u8
-    requires { proper symbol.now ≡ true }
-    ensures { result ≡ arity symbol.now }
-{
-    (symbol[0] / 256) as u8
-}
-
-// The words after the symbols, whose arities are noted, or the lowest symbol that is wrong.
+// The arities of the symbols and the words after them; the lowest symbol that is wrong is refused. They are cut off one after another, as at `split_symbol`.
 pub(crate) fn check_symbols<'a>(
     words: &'a [u32],
     count: usize,
-    arities: &mut [u8],
-) -> Result<&'a [u32], ImageFault>
-    requires { count ≤ length arities.old }
+) -> Result<(ArrayVec<u8, SYMBOL_LIMIT>, &'a [u32]), ImageFault>
+    requires { count ≤ symbol_limit }
     ensures fault { err_part result ≡ option_map BadSymbol (symbol_fault [] (symbols_of count words.now)) }
-    ensures rest { IfOk result (λ l. l.now ≡ after_symbols count words.now) }
-    ensures arities { IfOk result (λ l. take count arities.new ≡ map arity (symbols_of count words.now)) }
+    ensures arities { IfOk result (λ r. r.0.items ≡ map arity (symbols_of count words.now)) }
+    ensures rest { IfOk result (λ r. r.1.now ≡ after_symbols count words.now) }
 {
+    let mut arities = ArrayVec::new();
     let mut left = words;
-    for i in 0..count {
-        let symbol = first_symbol(left);
-        if !is_proper(symbol) {
-            return Err(ImageFault::Symbol { place: i });
+    for place in 0..count {
+        let (own, rest) = split_symbol(left);
+        let fault = ImageFault::Symbol { place };
+        let symbol = read_symbol(own).ok_or(fault)?;
+        if repeats(words, place, own) {
+            return Err(fault);
         }
-        if repeats(words, i, symbol) {
-            return Err(ImageFault::Symbol { place: i });
-        }
-        arities[i] = arity_in(symbol);
-        left = &left[symbol.len()..];
+        arities.push(symbol.arity());
+        left = rest;
     }
-    Ok(left)
+    Ok((arities, left))
 }

@@ -1,147 +1,143 @@
 // The text of a listing.
 use code::{Kind, decode, first_of, look_up, second_of};
-use image::{Image, ImageFault, Symbol};
+use image::{FORMAT, Image, ImageFault, Row, Symbol};
+use lines::{REFUSAL_LIMIT, Refusal};
 use std::alloc::{AllocError, Global};
-use std::fmt::Write;
+use std::fmt;
 
-// The one line of a fault.
-pub fn list_fault(heap: Global, fault: ImageFault) -> anyhow::Result<String> {
-    let mut line = [0u8; 64];
-    let mut text = String::new(heap);
-    if let Ok(len) = fault.refusal().write(&mut line) {
-        for b in line.iter().take(len) {
-            text.push(*b as char)?;
-        }
-    }
-    text.push('\n')?;
-    Ok(text)
+// The one line of a fault, which a refusal writes into a buffer.
+pub(crate) fn list_fault(heap: Global, fault: ImageFault) -> Result<String, AllocError> {
+    let mut line = [0; REFUSAL_LIMIT];
+    let len = Refusal::from(fault).write(&mut line).unwrap_or(0);
+    line.iter().take(len).map(|b| *b as char).collect(heap)
 }
 
-// The symbols of an image, by their numbers.
-fn symbols_of(heap: Global, image: Image<'_>) -> Result<Vec<Symbol>, AllocError> {
-    let mut symbols = Vec::new(heap);
-    let mut left = image.symbols();
-    for _ in 0..image.symbol_count {
-        if let Some(symbol) = left.next_symbol() {
-            symbols.push(symbol)?;
-        }
-    }
-    Ok(symbols)
-}
+// A symbol as `name/arity`, if there is one.
+#[derive(Clone, Copy)]
+struct Named<'a>(Option<&'a Symbol>);
 
-// A symbol as `name/arity`.
-fn put_symbol(text: &mut String, symbols: &[Symbol], number: usize) -> anyhow::Result<()> {
-    if number >= symbols.len() {
-        return Ok(());
+impl fmt::Display for Named<'_> {
+    fn fmt<W: fmt::Write>(&self, f: &mut fmt::Formatter<W>) -> fmt::Result {
+        let Some(symbol) = self.0 else {
+            return Ok(());
+        };
+        for b in symbol.name() {
+            f.write_char(*b as char)?;
+        }
+        write!(f, "/{}", symbol.arity())
     }
-    let symbol = &symbols[number];
-    for b in symbol.name() {
-        text.push(*b as char)?;
-    }
-    let arity = symbol.arity();
-    write!(text, "/{arity}")?;
-    Ok(())
 }
 
 // An operand: a slot as `Y0`, an argument as `A1`, a symbol by its name.
-fn put_operand(
-    text: &mut String,
-    symbols: &[Symbol],
+#[derive(Clone, Copy)]
+struct Operand<'a> {
+    symbols: &'a [Symbol],
     kind: Kind,
     value: usize,
-) -> anyhow::Result<()> {
-    match kind {
-        Kind::Nothing => {}
-        Kind::Slots => write!(text, "{value}")?,
-        Kind::Slot => write!(text, "Y{value}")?,
-        Kind::Argument => write!(text, "A{value}")?,
-        _ => put_symbol(text, symbols, value)?,
-    }
-    Ok(())
 }
 
-fn is_named(kind: Kind) -> bool {
-    match kind {
-        Kind::Nothing => false,
-        _ => true,
-    }
-}
-
-// A word as a line of its own: the mnemonic and the operands that it has.
-fn put_word(text: &mut String, symbols: &[Symbol], word: u32) -> anyhow::Result<()> {
-    let instruction = decode(word);
-    let mnemonic = instruction.mnemonic();
-    write!(text, "    {mnemonic}")?;
-    if let Some(entry) = look_up(instruction.number()) {
-        if is_named(entry.first) || is_named(entry.second) {
-            text.push(' ')?;
-        }
-        put_operand(text, symbols, entry.first, first_of(word) as usize)?;
-        if is_named(entry.first) && is_named(entry.second) {
-            text.push(',')?;
-        }
-        put_operand(text, symbols, entry.second, second_of(word) as usize)?;
-    }
-    text.push('\n')?;
-    Ok(())
-}
-
-// Where the code of row i ends.
-fn end_of(image: Image<'_>, i: usize) -> usize {
-    match image.row(i.saturating_add(1)) {
-        Some(next) => next.start,
-        None => image.code.len(),
-    }
-}
-
-// A clause: its number, its predicate, its key, and its code.
-fn put_clause(
-    text: &mut String,
-    symbols: &[Symbol],
-    image: Image<'_>,
-    i: usize,
-) -> anyhow::Result<()> {
-    let Some(row) = image.row(i) else {
-        return Ok(());
-    };
-    let number = i.saturating_add(1);
-    write!(text, "clause {number}: ")?;
-    put_symbol(text, symbols, row.predicate)?;
-    text.push_str(", key ")?;
-    if row.key == 0 {
-        text.push('0')?;
-    } else {
-        put_symbol(text, symbols, row.key - 1)?;
-    }
-    text.push('\n')?;
-    let end = end_of(image, i);
-    for at in row.start..end {
-        if at < image.code.len() {
-            put_word(text, symbols, image.code[at])?;
+impl fmt::Display for Operand<'_> {
+    fn fmt<W: fmt::Write>(&self, f: &mut fmt::Formatter<W>) -> fmt::Result {
+        let value = self.value;
+        match self.kind {
+            Kind::Nothing => Ok(()),
+            Kind::Slots => write!(f, "{value}"),
+            Kind::Slot => write!(f, "Y{value}"),
+            Kind::Argument => write!(f, "A{value}"),
+            Kind::Constant | Kind::Structure | Kind::Predicate => {
+                write!(f, "{}", Named(self.symbols.get(value)))
+            }
         }
     }
-    Ok(())
 }
 
-// The whole listing of an image.
-pub fn list_image(heap: Global, image: Image<'_>) -> anyhow::Result<String> {
-    let list = symbols_of(heap, image)?;
-    let symbols = list.as_slice();
-    let clauses = image.rows.len() / 3;
-    let words = image.code.len();
-    let mut text = String::new(heap);
-    let count = symbols.len();
-    write!(
-        text,
-        "ok\nheader: format 1, symbols {count}, clauses {clauses}, code words {words}\n"
-    )?;
-    for number in 0..count {
-        write!(text, "symbol {number}: ")?;
-        put_symbol(&mut text, symbols, number)?;
-        text.push('\n')?;
+// A code word: the mnemonic and the operands that it has.
+#[derive(Clone, Copy)]
+struct Word<'a> {
+    symbols: &'a [Symbol],
+    word: u32,
+}
+
+impl fmt::Display for Word<'_> {
+    fn fmt<W: fmt::Write>(&self, f: &mut fmt::Formatter<W>) -> fmt::Result {
+        let instruction = decode(self.word);
+        f.write_str(instruction.mnemonic())?;
+        let Some(entry) = look_up(instruction.number()) else {
+            return Ok(());
+        };
+        let first = Operand {
+            symbols: self.symbols,
+            kind: entry.first,
+            value: first_of(self.word) as usize,
+        };
+        let second = Operand {
+            symbols: self.symbols,
+            kind: entry.second,
+            value: second_of(self.word) as usize,
+        };
+        match (first.kind, second.kind) {
+            (Kind::Nothing, Kind::Nothing) => Ok(()),
+            (_, Kind::Nothing) => write!(f, " {first}"),
+            (Kind::Nothing, _) => write!(f, " {second}"),
+            _ => write!(f, " {first},{second}"),
+        }
     }
-    for i in 0..clauses {
-        put_clause(&mut text, symbols, image, i)?;
+}
+
+// The whole listing of an image, whose symbols are these.
+#[derive(Clone, Copy)]
+pub(crate) struct Listing<'a> {
+    pub(crate) image: Image<'a>,
+    pub(crate) symbols: &'a [Symbol],
+}
+
+impl Listing<'_> {
+    fn named(&self, number: usize) -> Named<'_> {
+        Named(self.symbols.get(number))
     }
-    Ok(text)
+
+    // A clause: its number, its predicate, its key, and its code.
+    fn write_clause<W: fmt::Write>(
+        &self,
+        f: &mut fmt::Formatter<W>,
+        i: usize,
+        row: Row,
+    ) -> fmt::Result {
+        let number = i.saturating_add(1);
+        write!(f, "clause {number}: {}, key ", self.named(row.predicate))?;
+        match row.key.checked_sub(1) {
+            None => writeln!(f, "0")?,
+            Some(key) => writeln!(f, "{}", self.named(key))?,
+        }
+        let code = self.image.code;
+        let end = self.image.row(number).map_or(code.len(), |next| next.start);
+        for word in code.get(row.start..end).unwrap_or(&[]) {
+            let word = Word {
+                symbols: self.symbols,
+                word: *word,
+            };
+            writeln!(f, "    {word}")?;
+        }
+        Ok(())
+    }
+}
+
+impl fmt::Display for Listing<'_> {
+    fn fmt<W: fmt::Write>(&self, f: &mut fmt::Formatter<W>) -> fmt::Result {
+        let symbols = self.symbols.len();
+        let clauses = self.image.rows().len();
+        let words = self.image.code.len();
+        writeln!(f, "ok")?;
+        writeln!(
+            f,
+            "header: format {FORMAT}, symbols {symbols}, clauses {clauses}, code words {words}"
+        )?;
+        for (number, symbol) in self.symbols.iter().enumerate() {
+            writeln!(f, "symbol {number}: {}", Named(Some(symbol)))?;
+        }
+        for (i, words) in self.image.rows().iter().enumerate() {
+            self.write_clause(f, i, Row::from(*words))?;
+        }
+        Ok(())
+    }
 }

@@ -1,6 +1,7 @@
 -- What the check of a line's fields says of the terms that they spell.
-use Rattle.std.proofs.Common.{◌≡◌, ℕ, ◌+◌, List, [], ◌∷◌, map, Ok, sym, refl, ap, ◌∙◌, arith}
+use Rattle.std.proofs.Common.{◌≡◌, ℕ, ◌+◌, List, [], ◌∷◌, map, Ok, sym, refl, ap, ◌∙◌, subst, arith}
 use Rattle.lines.specs.declared.kind.Kind.{Kind}
+use Rattle.lines.specs.declared.line.Line.{Line}
 use Rattle.horn.specs.Terms.{Name, Term, var, node, nil, cons, count}
 use Rattle.horn.specs.Clauses.{Written}
 use Rattle.horn.specs.Weights.{load}
@@ -8,6 +9,7 @@ use Rattle.horn.specs.Notation.{Word, variable, field, word_for, words, wordss}
 use Rattle.lines.specs.Kinds.{least, heads}
 use Rattle.lines.specs.Lines.{check, build}
 use Rattle.lines.specs.Grammar.{Good, Goods}
+use Rattle.lines.specs.Said.{Counted}
 use Rattle.lines.specs.Tokens.{before, words_of}
 use Rattle.lines.proofs.WordLaws.{word_field}
 use Rattle.lines.proofs.Accepts.{Accepted, accepted}
@@ -36,3 +38,7 @@ module _ (k : Kind) (d w : ℕ) (fs : List (List ℕ)) (e : check (heads k + d) 
 
   pub tokens_are : words_of fs ≡ wordss (build fs) []
   tokens_are = ap words_of (sym all.spelt) ∙ words_terms (build fs) [] all.good
+
+-- a line counts its own terms
+pub counted : (k : Kind) (l : Line) → l.kind ≡ k → Counted k l
+counted k l e = subst (λ j. Counted j l) e (record { kind = refl; goals = l.counted; weight = l.weighed; tokens = l.told })

@@ -1,6 +1,5 @@
 -- An accepted line has one reading.
 use Rattle.std.proofs.Common.{◌≡◌, ℕ, ◌+◌, ◌-◌, ◌<◌, ◌≤◌, Bool, true, false, cond, ◌&&◌, ◌||◌, eqb, ltb, leb, List, [], ◌∷◌, map, length, take, drop, Some, None, Ok, Err, Option, Result, sym, refl, ap, ◌∙◌, subst, ap₂, arith}
-use Rattle.std.proofs.lemmas.List.{take_rest}
 use Rattle.std.proofs.lemmas.Bool.{cond-true, cond-false, ltb-false, leb-true, le-leb, le-ltb, eqb-true, ne_eqb, or_parts, or_from, and_parts, and_from}
 use Rattle.lines.specs.declared.kind.Kind.{Kind}
 use Rattle.lines.specs.declared.kind.Kind.TheVariants.{Clause, Query}
@@ -154,21 +153,12 @@ read_at k line lo hi =
     cond-false (eqb (length line) 0 || ltb 512 (length line)) _ _ (or_from (eqb (length line) 0) (ltb 512 (length line)) (ne_eqb (length line) 0 (λ e. omega arith)) (le-ltb 512 (length line) hi))
     ∙ ap (whole k) (split_is line)
 
-module _ (k : Kind) (line : List ℕ) (n : ℕ) (lo : 0 < length line) (hi : length line ≤ 512) (is : n ≡ run 44 line) where
-  first : take (n - 0) line ≡ take (run 44 line) line
-  first = ap (λ m. take m line) (omega arith)
+module _ (k : Kind) (line front back : List ℕ) (lo : 0 < length line) (hi : length line ≤ 512) (f : front ≡ take (run 44 line) line) (b : back ≡ drop (run 44 line) line) where
+  pub read_first : begins k front ≡ false → read k line ≡ Err (Header 1)
+  read_first e = read_at k line lo hi ∙ cond-false _ _ _ (ap (begins k) (sym f) ∙ e)
 
-  others : after (drop (run 44 line) line) ≡ after (take (length line - n) (drop n line))
-  others = ap after (ap (λ m. drop m line) (sym is) ∙ sym (take_rest line n))
-
-  pub read_first : begins k (take (n - 0) line) ≡ false → read k line ≡ Err (Header 1)
-  read_first b = read_at k line lo hi ∙ cond-false _ _ _ (ap (begins k) (sym first) ∙ b)
-
-  pub read_body : begins k (take (n - 0) line) ≡ true → read k line ≡ body k (after (take (length line - n) (drop n line)))
-  read_body b = read_at k line lo hi ∙ cond-true _ _ _ (ap (begins k) (sym first) ∙ b) ∙ ap (body k) others
-
-pub body_none : (k : Kind) (fs : List (List ℕ)) → fs ≡ [] → body k fs ≡ Err (Missing 2)
-body_none k fs e = ap (body k) e
+  pub read_body : begins k front ≡ true → read k line ≡ body k (after back)
+  read_body e = read_at k line lo hi ∙ cond-true _ _ _ (ap (begins k) (sym f) ∙ e) ∙ ap (λ x. body k (after x)) (sym b)
 
 module _ (k : Kind) (fs : List (List ℕ)) (f : Name) (gs : List (List ℕ)) (parts : fs ≡ f ∷ gs) where
   pub body_wrong : goals_of k f ≡ None → body k fs ≡ Err (Header 2)

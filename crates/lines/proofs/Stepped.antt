@@ -1,9 +1,9 @@
 -- One field's step, in the reader's counts.
-use Rattle.std.proofs.Common.{◌≡◌, ℕ, zero, suc, ◌+◌, ◌-◌, ◌<◌, true, false, cond, eqb, ltb, List, [], ◌∷◌, Ok, Err, Result, sym, refl, ap, ◌∙◌, ap₂, arith}
+use Rattle.std.proofs.Common.{◌≡◌, ℕ, zero, suc, ◌+◌, ◌-◌, ◌<◌, true, false, cond, eqb, ltb, List, ◌∷◌, Ok, Err, Result, sym, refl, ap, ◌∙◌, arith}
 use mathlib.Core.Path.{fun_ext}
 use Rattle.std.proofs.lemmas.Bool.{ne_eqb}
 use Rattle.lines.specs.declared.faults.LineFault.{LineFault}
-use Rattle.lines.specs.declared.faults.LineFault.TheVariants.{Field, Heavy, Missing, LeftOver}
+use Rattle.lines.specs.declared.faults.LineFault.TheVariants.{Field, Heavy}
 use Rattle.lines.specs.declared.reader.Awaited.{Awaited}
 use Rattle.horn.specs.Notation.{Word, name, structure, variable, arity}
 use Rattle.lines.specs.Lines.{then, word_at, cost, weighed, goal_only, check}
@@ -42,21 +42,6 @@ pub check_step : (s : Awaited) (p : ℕ) (f : List ℕ) (fs : List (List ℕ)) �
     → check_at s p (f ∷ fs) ≡ then Field (word_at p f) (λ x. then (λ e. e) (step s p x) (λ t. check_at t (suc p) fs))
 check_step s p f fs h = stepped s.goals s.need s.price s.weight p f fs h
 
-module _ (s : Awaited) (p : ℕ) where
-  pub check_over : (f : List ℕ) (fs : List (List ℕ)) → s.need ≡ 0 → s.goals ≡ 0 → check_at s p (f ∷ fs) ≡ Err (LeftOver p)
-  check_over f fs n g = ap₂ (λ g n. check g n s.price s.weight p (f ∷ fs)) g n
-
-  pub check_done : s.need ≡ 0 → s.goals ≡ 0 → check_at s p [] ≡ Ok s.weight
-  check_done n g = ap₂ (λ g n. check g n s.price s.weight p []) g n
-
-  pub check_short : (s.need ≡ 0 → 0 < s.goals) → check_at s p [] ≡ Err (Missing p)
-  check_short h = go s.goals s.need h
-    where
-      go : (g n : ℕ) → (n ≡ 0 → 0 < g) → check g n s.price s.weight p [] ≡ Err (Missing p)
-      go zero zero k = absurd (let l = k refl in omega arith)
-      go (suc g) zero k = refl
-      go g (suc n) k = refl
-
 -- a turn of the reader
 module _ (s : Awaited) (p : ℕ) (f : List ℕ) (xs fs : List (List ℕ)) (x : Word) (some : s.need ≡ 0 → 0 < s.goals) (parts : xs ≡ f ∷ fs) (word : Ok x ≡ word_at p f) where
   at_word : check_at s p xs ≡ then (λ e. e) (step s p x) (λ t. check_at t (suc p) fs)
@@ -64,6 +49,3 @@ module _ (s : Awaited) (p : ℕ) (f : List ℕ) (xs fs : List (List ℕ)) (x : W
 
   pub turn_on : (t : Awaited) → Ok t ≡ step s p x → check_at s p xs ≡ check_at t (p + 1) fs
   turn_on t e = at_word ∙ ap (λ r. then (λ e. e) r (λ t. check_at t (suc p) fs)) (sym e) ∙ ap (λ k. check_at t k fs) {x = suc p} {y = p + 1} (omega arith)
-
-  pub turn_off : (e : LineFault) → Err e ≡ step s p x → check_at s p xs ≡ Err e
-  turn_off e d = at_word ∙ ap (λ r. then (λ e. e) r (λ t. check_at t (suc p) fs)) (sym d)

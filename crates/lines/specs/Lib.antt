@@ -6,6 +6,7 @@ pub mod Lines
 pub mod Grammar
 pub mod Clauses
 pub mod Tokens
+pub mod Spelled
 pub mod Said
 pub mod Steps
 pub mod Refusals

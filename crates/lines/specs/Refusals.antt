@@ -4,6 +4,8 @@ use Rattle.lines.specs.declared.faults.FieldFault.{FieldFault}
 use Rattle.lines.specs.declared.faults.FieldFault.TheVariants.{Form}
 use Rattle.lines.specs.declared.faults.LineFault.{LineFault}
 use Rattle.lines.specs.declared.faults.LineFault.TheVariants.{Field, Length, Header, Missing, LeftOver, Variable, Heavy}
+use Rattle.lines.specs.declared.faults.Area.{Area}
+use Rattle.lines.specs.declared.faults.Area.TheVariants.{Clauses, Symbols, CodeWords}
 use Rattle.lines.specs.declared.faults.CallFault.{CallFault}
 use Rattle.lines.specs.declared.faults.CallFault.TheVariants.{Line, Limit, Buffer}
 use Rattle.lines.specs.declared.refusals.Refusal.{Refusal}
@@ -28,10 +30,16 @@ line_refusal (LeftOver p) = refusal 5 2 p
 line_refusal (Variable p) = refusal 6 2 p
 line_refusal (Heavy p) = refusal 7 2 p
 
+-- the place of an area that would pass its limit
+abbrev pub area_place : Area → ℕ
+area_place Clauses = 1
+area_place Symbols = 2
+area_place CodeWords = 3
+
 -- of a call: layer 3; what began in a line keeps its number, layer and place
 abbrev pub call_refusal : CallFault → Refusal
 call_refusal (Line e) = line_refusal e
-call_refusal (Limit p) = refusal 8 3 p
+call_refusal (Limit a) = refusal 8 3 (area_place a)
 call_refusal Buffer = refusal 10 3 0
 
 -- `R,number,layer,place,rule`

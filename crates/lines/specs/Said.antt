@@ -10,7 +10,7 @@ use Rattle.horn.specs.Weights.{load}
 use Rattle.horn.specs.Notation.{Word, wordss}
 use Rattle.lines.specs.Fields.{after}
 use Rattle.lines.specs.Kinds.{heads, least}
-use Rattle.lines.specs.Lines.{build}
+use Rattle.lines.specs.Spelled.{spelled}
 use Rattle.lines.specs.Tokens.{words_of}
 use Rattle.lines.specs.Clauses.{clause_from}
 
@@ -24,7 +24,7 @@ none_left fields = length (after fields.rest.now) == 0
 
 -- its terms as they are written: a clause's head and goals, a query's goals
 abbrev pub terms_of : Line → Written
-terms_of l = build (after l.body.rest.now)
+terms_of l = spelled l.body
 
 -- the line's kind, number of goals, weight and tokens are those of its terms
 pub record Counted (k : Kind) (l : Line) : Type 0 where

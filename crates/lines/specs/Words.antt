@@ -1,5 +1,6 @@
 -- A field's bytes, and the word that they spell.
 use Rattle.std.specs.Prelude.{◌≡◌, ℕ, suc, ◌+◌, ◌-◌, Bool, true, false, cond, ◌&&◌, ◌||◌, List, [], ◌∷◌, length, take, drop, Some, None, Option, ◌==◌, nat_le}
+use Rattle.std.specs.List.{list_all}
 use Rattle.horn.specs.Notation.{Word, name, structure, variable}
 use Rattle.lines.specs.Limits.{name_limit, arity_limit}
 
@@ -21,8 +22,7 @@ abbrev pub namely : ℕ → Bool
 namely b = plain b || (b == 46 || b == 45)
 
 abbrev pub every : (ℕ → Bool) → List ℕ → Bool
-every p [] = true
-every p (b ∷ bs) = p b && every p bs
+every p bs = list_all p bs
 
 abbrev pub is_name : List ℕ → Bool
 is_name [] = false

@@ -4,14 +4,14 @@ ghost use Rattle.lines.specs.declared.faults.LineFault.TheVariants.{Field};
 ghost use Rattle.lines.specs.declared.faults.CallFault.TheVariants.{Line};
 
 // Of the field reader.
-#[derive(Clone, Copy)]
+#[derive(Clone, Copy, PartialEq, Eq)]
 pub enum FieldFault {
     // an awaited field that is no name, structure or variable
     Form { place: usize },
 }
 
 // Of the line reader.
-#[derive(Clone, Copy)]
+#[derive(Clone, Copy, PartialEq, Eq)]
 pub enum LineFault {
     Field(FieldFault),
     // no byte, or too many
@@ -28,12 +28,20 @@ pub enum LineFault {
     Heavy { place: usize },
 }
 
+// What a deck has a limit for.
+#[derive(Clone, Copy, PartialEq, Eq)]
+pub enum Area {
+    Clauses = 1,
+    Symbols,
+    CodeWords,
+}
+
 // Of a call.
-#[derive(Clone, Copy)]
+#[derive(Clone, Copy, PartialEq, Eq)]
 pub enum CallFault {
     Line(LineFault),
-    // the clauses (1), symbols (2) or code words (3) pass their limit
-    Limit { place: usize },
+    // an area would pass its limit
+    Limit(Area),
     // what is to be written is longer than the buffer
     Buffer,
 }

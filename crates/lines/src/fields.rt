@@ -5,10 +5,10 @@ ghost use Rattle.lines.specs.Said.{words_left, none_left};
 ghost use Rattle.lines.specs.Tokens.{word, words_of};
 ghost use Rattle.lines.specs.Words.{run};
 
-use crate::bytes::run_len;
+use crate::bytes::cut;
 use crate::tokens::{Token, read_token};
 
-// The fields after one, from its comma on.
+// The fields after one, from its comma on. No Iterator: what is left is copied and read again, and a field without a form takes nothing away. No Model: two things are said of it, its tokens and its bytes.
 #[derive(Clone, Copy)]
 pub struct Fields<'a> {
     pub(crate) rest: &'a [u8],
@@ -19,8 +19,8 @@ impl<'a> Fields<'a> {
     pub fn of(line: &'a [u8]) -> Fields<'a>
         ensures { words_left result ≡ words_of (after (drop (run 44 line.now) line.now)) }
     {
-        let n = run_len(line, b',');
-        Fields { rest: &line[n..] }
+        let (_, rest) = cut(line, b',');
+        Fields { rest }
     }
 
     // Whether no field is left.
@@ -37,9 +37,9 @@ impl<'a> Fields<'a> {
         let [_, line @ ..] = self.rest else {
             return None;
         };
-        let n = run_len(line, b',');
-        self.rest = &line[n..];
-        Some(&line[0..n])
+        let (field, rest) = cut(line, b',');
+        self.rest = rest;
+        Some(field)
     }
 
     // The next field as a token; none where no field is left, which in an accepted line is the only case, or where the next has no form.
@@ -50,9 +50,7 @@ impl<'a> Fields<'a> {
     {
         let mut left = *self;
         let field = left.next_field()?;
-        let Ok(token) = read_token(field, 0) else {
-            return None;
-        };
+        let token = read_token(field, 0).ok()?;
         *self = left;
         Some(token)
     }

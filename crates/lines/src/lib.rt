@@ -12,11 +12,11 @@ mod refusals;
 mod tokens;
 
 pub use bytes::{NAME_LIMIT, all_plain, is_name};
-pub use faults::{CallFault, FieldFault, LineFault};
+pub use faults::{Area, CallFault, FieldFault, LineFault};
 pub use fields::Fields;
 pub use gather::Gathered;
 pub use kind::Kind;
-pub use line::Line;
+pub use line::{LINE_LIMIT, Line};
 pub use reader::{read_clause, read_query};
-pub use refusals::Refusal;
-pub use tokens::Token;
+pub use refusals::{REFUSAL_LIMIT, Refusal};
+pub use tokens::{ARITY_LIMIT, Token};

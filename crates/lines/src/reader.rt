@@ -7,22 +7,22 @@ ghost use Rattle.lines.specs.Lines.{cost, check, begins, goals_of};
 ghost use Rattle.lines.specs.Lines.{read as written};
 ghost use Rattle.lines.specs.Tokens.{word};
 ghost use Rattle.lines.specs.Steps.{step};
-ghost use Rattle.lines.specs.Said.{said, said_clause, said_query, Counted};
+ghost use Rattle.lines.specs.Said.{said, said_clause, said_query};
 ghost use Rattle.lines.specs.Clauses.{read_clause, read_query, SpellsClause, SpellsQuery, OneReading};
 
-use crate::bytes::run_len;
+use crate::bytes::cut;
 use crate::faults::LineFault;
 use crate::fields::Fields;
 use crate::kind::Kind;
-use crate::line::Line;
+use crate::line::{LINE_LIMIT, Line};
 use crate::tokens::{Token, read_token};
 
-// The bytes of a line, and its weight, at most.
-const LINE_LIMIT: usize = 512;
-
+// The weight and the goals of a line, at most.
 const WEIGHT_LIMIT: usize = 128;
 
-// What a line's reader still awaits, and the weight so far.
+const GOAL_LIMIT: u8 = 8;
+
+// What a line's reader still awaits, and the weight so far. That the weight is low is asked and told by `take` alone.
 #[derive(Clone, Copy)]
 pub(crate) struct Awaited {
     // heads or goals
@@ -34,26 +34,14 @@ pub(crate) struct Awaited {
     weight: usize,
 }
 
-fn arity_of(token: Token<'_>) -> usize
-    ensures value { result ≡ arity (word token.entry) }
-    ensures small { result < 256 }
-{
-    match token {
-        Token::Name(_) => 0,
-        Token::Structure(_, n) => n as usize,
-        Token::Variable(_) => 0,
-    }
-}
-
 // What a token weighs as an argument.
 fn cost_of(token: Token<'_>) -> usize
     ensures value { result ≡ cost (word token.entry) }
     ensures small { result ≤ 2 }
 {
     match token {
-        Token::Name(_) => 1,
+        Token::Name(_) | Token::Variable(_) => 1,
         Token::Structure(_, _) => 2,
-        Token::Variable(_) => 1,
     }
 }
 
@@ -68,21 +56,20 @@ impl Awaited {
         ensures bounds { IfOk result (λ s. (s.need ≤ self.need + 256) × ((s.weight ≤ 128) × (s.price ≤ 1))) }
     {
         let next = if self.need == 0 {
-            if let Token::Variable(_) = token {
+            if matches!(token, Token::Variable(_)) {
                 return Err(LineFault::Variable { place });
             }
             Awaited {
                 goals: self.goals - 1,
-                need: arity_of(token),
+                need: token.arity(),
                 price: 1,
                 weight: self.weight + self.price,
             }
         } else {
             Awaited {
-                goals: self.goals,
-                need: arity_of(token) + (self.need - 1),
-                price: self.price,
+                need: token.arity() + (self.need - 1),
                 weight: self.weight + cost_of(token),
+                ..self
             }
         };
         if next.weight > WEIGHT_LIMIT {
@@ -106,6 +93,7 @@ fn check_fields(fields: Fields<'_>, goals: usize, price: usize) -> Result<usize,
         price,
         weight: 0,
     };
+    // counted beside the fields: `Fields` is no Iterator, and says why
     let mut place = 3;
     while let Some(field) = left.next_field() {
         if state.need == 0 && state.goals == 0 {
@@ -124,39 +112,38 @@ fn check_fields(fields: Fields<'_>, goals: usize, price: usize) -> Result<usize,
 fn begins_as(kind: Kind, field: &[u8]) -> bool
     ensures { result ≡ begins kind field.now }
 {
-    field.len() == 1 && field[0] == kind.mark()
+    matches!(field, [letter] if *letter == kind.mark())
 }
 
-// The number of goals that the second field gives.
+// The number of goals that the second field gives, which is one digit.
 fn goals_in(kind: Kind, field: &[u8]) -> Option<usize>
     ensures value { result ≡ goals_of kind field.now }
     ensures few { IfSome result (λ d. d ≤ 8) }
 {
-    if field.len() != 1 || field[0] < b'0' + kind.least() || field[0] > b'8' {
+    let [digit] = field else {
         return None;
-    }
-    Some((field[0] - b'0') as usize)
+    };
+    let goals = digit.checked_sub(b'0')?;
+    (kind.least()..=GOAL_LIMIT)
+        .contains(&goals)
+        .then_some(goals as usize)
 }
 
 // What the line says as a line of this kind, or its first fault.
 fn read<'a>(kind: Kind, line: &'a [u8]) -> Result<Line<'a>, LineFault>
     ensures value { said result ≡ written kind line.now }
-    ensures counted { IfOk result (Counted kind) }
+    ensures kind { IfOk result (λ l. l.kind ≡ kind) }
 {
     if line.is_empty() || line.len() > LINE_LIMIT {
         return Err(LineFault::Length);
     }
-    let n = run_len(line, b',');
-    if !begins_as(kind, &line[0..n]) {
+    let (first, rest) = cut(line, b',');
+    if !begins_as(kind, first) {
         return Err(LineFault::Header { place: 1 });
     }
-    let mut fields = Fields { rest: &line[n..] };
-    let Some(second) = fields.next_field() else {
-        return Err(LineFault::Missing { place: 2 });
-    };
-    let Some(goals) = goals_in(kind, second) else {
-        return Err(LineFault::Header { place: 2 });
-    };
+    let mut fields = Fields { rest };
+    let second = fields.next_field().ok_or(LineFault::Missing { place: 2 })?;
+    let goals = goals_in(kind, second).ok_or(LineFault::Header { place: 2 })?;
     let weight = check_fields(fields, kind.heads() + goals, kind.least() as usize)?;
     Ok(Line {
         kind,
@@ -166,11 +153,13 @@ fn read<'a>(kind: Kind, line: &'a [u8]) -> Result<Line<'a>, LineFault>
     })
 }
 
+// A clause and a query are read alike, but what is promised of them are values of two types.
+
 // The clause that the line spells, or the line's first fault.
 pub fn read_clause<'a>(line: &'a [u8]) -> Result<Line<'a>, LineFault>
     ensures value { said_clause result ≡ read_clause line.now }
     ensures one_reading { OneReading (SpellsClause line.now) (said_clause result) }
-    ensures counted { IfOk result (Counted ClauseLine) }
+    ensures kind { IfOk result (λ l. l.kind ≡ ClauseLine) }
 {
     read(Kind::Clause, line)
 }
@@ -179,7 +168,7 @@ pub fn read_clause<'a>(line: &'a [u8]) -> Result<Line<'a>, LineFault>
 pub fn read_query<'a>(line: &'a [u8]) -> Result<Line<'a>, LineFault>
     ensures value { said_query result ≡ read_query line.now }
     ensures one_reading { OneReading (SpellsQuery line.now) (said_query result) }
-    ensures counted { IfOk result (Counted QueryLine) }
+    ensures kind { IfOk result (λ l. l.kind ≡ QueryLine) }
 {
     read(Kind::Query, line)
 }

@@ -1,12 +1,16 @@
 // What a fault is called: its number, its layer, the place and, for code, the rule; and the line that says so.
 ghost use Rattle.std.specs.Prelude.{◌≡◌};
 ghost use Rattle.text.specs.Buffers.{filled};
-ghost use Rattle.lines.specs.Refusals.{refusal, field_refusal, line_refusal, call_refusal, refusal_line, written};
+ghost use Rattle.lines.specs.Refusals.{refusal, area_place, field_refusal, line_refusal, call_refusal, refusal_line, written};
 
-use crate::faults::{CallFault, FieldFault, LineFault};
+use crate::faults::{Area, CallFault, FieldFault, LineFault};
 use text::write_numbers;
 
-#[derive(Clone, Copy)]
+// The bytes of a refusal, at most: a letter, and four numbers with a comma before each.
+pub const REFUSAL_LIMIT: usize = 85;
+
+// The four numbers of the line, as they are printed.
+#[derive(Clone, Copy, PartialEq, Eq)]
 pub struct Refusal {
     pub number: u8,
     pub layer: u8,
@@ -14,22 +18,22 @@ pub struct Refusal {
     pub rule: u8,
 }
 
-impl FieldFault {
-    pub fn refusal(self) -> Refusal
-        ensures { result ≡ field_refusal self }
-    {
-        match self {
+impl From<FieldFault> for Refusal {
+    ghost from_gives = { λ e r. r ≡ field_refusal e };
+
+    fn from(fault: FieldFault) -> Refusal {
+        match fault {
             FieldFault::Form { place } => Refusal::at(2, 1, place),
         }
     }
 }
 
-impl LineFault {
-    pub fn refusal(self) -> Refusal
-        ensures { result ≡ line_refusal self }
-    {
-        match self {
-            LineFault::Field(fault) => fault.refusal(),
+impl From<LineFault> for Refusal {
+    ghost from_gives = { λ e r. r ≡ line_refusal e };
+
+    fn from(fault: LineFault) -> Refusal {
+        match fault {
+            LineFault::Field(fault) => fault.into(),
             LineFault::Length => Refusal::at(1, 2, 0),
             LineFault::Header { place } => Refusal::at(3, 2, place),
             LineFault::Missing { place } => Refusal::at(4, 2, place),
@@ -40,15 +44,24 @@ impl LineFault {
     }
 }
 
-impl CallFault {
-    pub fn refusal(self) -> Refusal
-        ensures { result ≡ call_refusal self }
-    {
-        match self {
-            CallFault::Line(fault) => fault.refusal(),
-            CallFault::Limit { place } => Refusal::at(8, 3, place),
+impl From<CallFault> for Refusal {
+    ghost from_gives = { λ e r. r ≡ call_refusal e };
+
+    fn from(fault: CallFault) -> Refusal {
+        match fault {
+            CallFault::Line(fault) => fault.into(),
+            CallFault::Limit(area) => Refusal::at(8, 3, area.place()),
             CallFault::Buffer => Refusal::at(10, 3, 0),
         }
+    }
+}
+
+impl Area {
+    // The place that a refusal has for it.
+    fn place(self) -> usize
+        ensures { result ≡ area_place self }
+    {
+        self as usize
     }
 }
 
@@ -66,7 +79,7 @@ impl Refusal {
     }
 
     // Writes `R,number,layer,place,rule` at the buffer's beginning, and answers the length;
-    // where that is longer than the buffer, it stays as it was.
+    // where that is longer than the buffer, it stays as it was: what a Display does not say of lent memory.
     pub fn write(self, buffer: &mut [u8]) -> Result<usize, CallFault>
         ensures value { result ≡ written (refusal_line self) buffer.old }
         ensures after { buffer.new ≡ filled (refusal_line self) buffer.old }
@@ -77,9 +90,6 @@ impl Refusal {
             self.place,
             self.rule as usize,
         ];
-        match write_numbers(b'R', &numbers, buffer) {
-            Some(len) => Ok(len),
-            None => Err(CallFault::Buffer),
-        }
+        write_numbers(b'R', &numbers, buffer).ok_or(CallFault::Buffer)
     }
 }

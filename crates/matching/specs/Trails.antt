@@ -4,11 +4,6 @@ use Rattle.std.specs.List.{AllByRecursion}
 use Rattle.heap.specs.Heaps.{Heap, cell, total, plain, arity}
 use Rattle.heap.specs.declared.cell.Cell.TheVariants.{Node}
 use Rattle.matching.specs.declared.trail.Bound.{Bound}
-use Rattle.matching.specs.declared.trail.Trail.{Trail}
-
--- the bindings of a trail
-abbrev pub entries : Trail → List Bound
-entries t = take t.len t.items
 
 -- the heap once the bindings of the trail are taken back, the last first
 abbrev pub undone : List Bound → Heap → Heap

@@ -3,7 +3,6 @@
 
 mod binding;
 mod joining;
-mod noting;
 mod pairs;
 mod trail;
 mod undoing;
@@ -13,4 +12,4 @@ pub use binding::bind;
 pub use pairs::Pair;
 pub use trail::{Bound, Trail};
 pub use undoing::undo;
-pub use unifier::unify;
+pub use unifier::{Unifier, Unlike};

@@ -1,4 +1,3 @@
-pub mod StoreLaws
 pub mod PoseLaws
 pub mod StartLaws
 pub mod StoredLaws

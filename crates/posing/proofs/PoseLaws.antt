@@ -1,5 +1,6 @@
 -- Laws of a query that is built from the right.
 use Rattle.std.proofs.Common.{◌≡◌, ℕ, zero, suc, ◌+◌, ◌<◌, ◌≤◌, ◌⊎◌, List, [], ◌∷◌, ◌++◌, length, get_or, drop, Some, None, Option, sym, refl, ap, ◌∙◌, subst, ap₂, inl, inr, arith, length-drop, get_or-set_other, get_or-set_same}
+use borrow.Author.Count.{below_more}
 use native.Mathlib.Decide.{dec_lt, ℕ_discrete}
 use Rattle.std.specs.List.{AllByRecursion}
 use Rattle.std.proofs.lemmas.List.{length_push}
@@ -15,10 +16,11 @@ use Rattle.code.specs.declared.instructions.Operand.TheVariants.{Known, Constant
 use Rattle.code.specs.Meaning.{Symbols, Terming}
 use Rattle.entering.specs.declared.goal.Goal.{Goal}
 use Rattle.entering.specs.Goals.{worth, Good}
-use Rattle.entering.specs.Turns.{Slots, Nothing, Stands, Turned, slot_cell, slot_set}
+use Rattle.entering.specs.Turns.{Slots, Nothing, Stands, Turned, slot_set}
 use Rattle.entering.proofs.TurnLaws.{turned_map, turned_then, turned_still, turned_push}
 use Rattle.entering.proofs.OperandLaws.{turned_made}
 use Rattle.entering.proofs.StepLaws.{goods_more}
+use Rattle.entry.proofs.StructureLaws.{slot_arity}
 use Rattle.posing.specs.declared.pieces.Piece.{Piece}
 use Rattle.posing.specs.declared.pieces.Piece.TheVariants.{Constant, Variable, Structure, Goal as Asks}
 use Rattle.posing.specs.declared.pieces.Entry.{Entry}
@@ -36,15 +38,12 @@ turned_seated table H S (Place i) st h = turned_push table H S (Ref i) st (λ j 
 pub laid_none : (table : List ℕ) (H : Heap) (S : Slots) (en : ℕ → Entry) → Stands table H S → Turned table H S Nothing (Laid (length H) en 0) H S
 laid_none table H S en st = turned_still table H S Nothing (Laid (length H) en 0) st (λ s n ρ σ h f j l. absurd (omega arith))
 
-row_more : (P : ℕ → Type 0) (k : ℕ) → ((j : ℕ) → j < k → P j) → P k → (j : ℕ) → j < k + 1 → P j
-row_more P k h p j l = elim (dec_lt j k) [ yes lt ↦ h j lt | no ge ↦ (let e : k ≡ j = omega arith in subst P e p) ]
-
 pub laid_more : (table : List ℕ) (en : ℕ → Entry) {H H₁ H₂ : Heap} {S S₁ S₂ : Slots} (k : ℕ) → length H₁ ≡ length H + k → Turned table H S Nothing (Laid (length H) en k) H₁ S₁
     → Turned table H₁ S₁ Nothing (λ s ρ σ. ρ (length H₁) ≡ term s ρ σ (en k)) H₂ S₂ → Turned table H S Nothing (Laid (length H) en (k + 1)) H₂ S₂
 laid_more table en {H} {H₁} k long first second =
     turned_then table Nothing (Laid (length H) en k) Nothing Nothing first (λ s n ρ σ d. tt) (λ s n ρ τ σ same h f e d. tt)
     (λ s ρ σ. ρ (length H₁) ≡ term s ρ σ (en k)) (Laid (length H) en (k + 1)) second
-    (λ s n ρ σ h f e d. row_more (λ j. ρ (length H + j) ≡ term s ρ σ (en j)) k e (ap ρ (sym long) ∙ d))
+    (λ s n ρ σ h f e d. below_more (λ j. ρ (length H + j) ≡ term s ρ σ (en j)) k e (ap ρ (sym long) ∙ d))
 
 -- the first n entries, and the others
 laid_front : (s : Symbols) (ρ : Valuation) (σ : Terming) (n : ℕ) (es : List Entry) (b : ℕ) → n ≤ length es → ((j : ℕ) → j < n → ρ (b + j) ≡ term s ρ σ (get_or es j (Atom 0))) → span ρ b n ≡ front n (terms_of s ρ σ es)
@@ -161,10 +160,6 @@ module _ (table : List ℕ) (S₀ : Slots) where
             paid = omega (arith, grow, length-drop n es, p.paid, p.count);
             placed = λ y o. elim (placed_on y (p.placed y o)) [ inl w ↦ inl (inr w) | inr h ↦ inr h ];
           }
-
-slot_arity : (x : Option ℕ) → arity (slot_cell x) ≡ 0
-slot_arity None = refl
-slot_arity (Some i) = refl
 
 seated_arity : (S : Slots) (e : Entry) → arity (seated S e) ≡ 0
 seated_arity S (Atom c) = refl

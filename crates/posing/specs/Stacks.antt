@@ -1,5 +1,5 @@
 -- A query that is half built, from the right.
-use Rattle.std.specs.Prelude.{◌≡◌, ℕ, ◌+◌, ◌-◌, ◌<◌, ◌≤◌, ◌⊎◌, List, [], ◌∷◌, length, Some, None, slice_index, slice_index_or}
+use Rattle.std.specs.Prelude.{◌≡◌, ℕ, ◌+◌, ◌<◌, ◌≤◌, ◌⊎◌, List, [], ◌∷◌, length, Some, None, slice_index, slice_index_or}
 use Rattle.std.specs.List.{AllByRecursion}
 use Rattle.horn.specs.Terms.{Term, Terms, node, nil, cons}
 use Rattle.heap.specs.Heaps.{Heap}
@@ -71,9 +71,9 @@ pub record Posing (table : List ℕ) (S₀ : Slots) (ps : List Piece) (H : Heap)
   -- a variable waits, or has a cell
   pub placed : (y : ℕ) → Occurs y ps → Waiting y es ⊎ Has S y
 
--- the j-th entry from the top of a stack that has so many
-abbrev pub entry_at : List Entry → ℕ → ℕ → Entry
-entry_at xs count = λ j. slice_index_or xs (count - 1 - j) (Constant 0)
+-- the j-th entry
+abbrev pub entry_at : List Entry → ℕ → Entry
+entry_at es = λ j. slice_index_or es j (Constant 0)
 
 -- n cells have been made for the entries
 pub record Seating (table : List ℕ) (H : Heap) (S : Slots) (en : ℕ → Entry) (n : ℕ) (H' : Heap) (S' : Slots) : Type 0 where

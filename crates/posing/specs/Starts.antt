@@ -1,5 +1,5 @@
 -- Cells that stand for a query.
-use Rattle.std.specs.Prelude.{◌≡◌, ℕ, zero, suc, ◌≤◌, List, [], ◌∷◌, length, slice_index_or}
+use Rattle.std.specs.Prelude.{◌≡◌, ℕ, zero, suc, ◌≤◌, List, [], ◌∷◌, length, Some, None, Option, slice_index_or}
 use Rattle.std.specs.List.{AllByRecursion}
 use Rattle.heap.specs.Heaps.{Heap}
 use Rattle.heap.specs.Solutions.{Valuation, Sol}
@@ -9,7 +9,6 @@ use Rattle.entering.specs.Goals.{vals, Names, Good}
 use Rattle.entering.specs.Turns.{Slots, Fits, Stands}
 use Rattle.posing.specs.declared.pieces.Piece.{Piece}
 use Rattle.posing.specs.declared.pieces.Entry.{Entry}
-use Rattle.posing.specs.declared.pieces.Entry.TheVariants.{Constant}
 use Rattle.posing.specs.Queries.{goals_of, weighs, Occurs}
 use Rattle.posing.specs.Stacks.{Posing, Has}
 
@@ -18,11 +17,13 @@ abbrev pub from_top : {X : Type 0} → X → List X → ℕ → List X
 from_top d xs zero = []
 from_top d xs (suc n) = slice_index_or xs n d ∷ from_top d xs n
 
-abbrev pub no_entry : Entry
-no_entry = Constant 0
-
 abbrev pub no_goal : Goal
 no_goal = record { symbol = 0; arity = 0; first = 0 }
+
+-- the goals, with one that a word leaves before them
+abbrev pub left_by : Option Goal → List Goal → List Goal
+left_by None G = G
+left_by (Some g) G = g ∷ G
 
 -- one word more has been built
 abbrev pub Builds : List ℕ → Piece → Heap → Slots → List Entry → List Goal → Heap → Slots → List Entry → List Goal → Type 0

@@ -1,5 +1,4 @@
 pub mod TermLaws
-pub mod ClauseLaws
 pub mod RefusalLaws
 pub mod LineLaws
 pub mod Samples

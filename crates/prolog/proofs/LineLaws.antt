@@ -1,25 +1,56 @@
--- The text of an accepted line is that of its terms.
-use Rattle.std.proofs.Common.{◌≡◌, ℕ, ◌+◌, List, [], ◌∷◌, ◌++◌, Ok, Result, sym, ap, ◌∙◌, arith}
-use Rattle.std.proofs.lemmas.List.{append_assoc}
+-- What stands for a line is what stands for what it was read as.
+use Rattle.std.proofs.Common.{◌≡◌, ℕ, ◌+◌, true, false, ◌==◌, List, [], ◌∷◌, IfOk, Ok, Err, Result, sym, refl, ap, ◌∙◌, arith}
+use Rattle.std.proofs.lemmas.Bool.{cond-true, cond-false}
+use Rattle.std.proofs.lemmas.Bool.Decides.{nat_tests}
+use Rattle.std.specs.List.{starts_with}
+use Rattle.lines.specs.declared.kind.Kind.TheVariants.{Clause as ClauseLine, Query as QueryLine}
+use Rattle.lines.specs.declared.line.Line.{Line}
 use Rattle.lines.specs.declared.faults.LineFault.{LineFault}
 use Rattle.horn.specs.Terms.{nil, cons, count}
-use Rattle.horn.specs.Clauses.{Clause, Query, Written, aparts}
+use Rattle.horn.specs.Clauses.{Written}
 use Rattle.horn.proofs.Blanks.{written_aparts}
-use Rattle.lines.specs.Clauses.{clause_from}
-use Rattle.prolog.specs.declared.verdict.Verdict.{Verdict}
+use Rattle.lines.specs.Clauses.{clause_from, read_clause, read_query}
+use Rattle.lines.proofs.Counts.{counted}
+use Rattle.lines.specs.Said.{terms_of, said_clause, said_query}
+use Rattle.prolog.specs.declared.verdict.Verdict.TheVariants.{Clause, Query}
 use Rattle.prolog.specs.Prolog.{rule_text, goal_text, clause_text, query_text}
-use Rattle.prolog.specs.Proofread.{text_of, verdict_in}
+use Rattle.prolog.specs.Proofread.{as_query, text_of, verdict_in, line_text, verdict_of}
+use Rattle.prolog.specs.Puts.{kind_verdict, kind_text, read_verdict, read_text}
 
-module _ (number : ℕ) (v : Verdict) (o0 o1 : List ℕ) (ts : Written) where
-  pub clause_told : (n : ℕ) → 1 + n ≡ count ts → (r : Result Clause LineFault) → clause_from ts ≡ r → o1 ≡ o0 ++ rule_text ts → (v ≡ verdict_in v r) × (o1 ≡ o0 ++ text_of number clause_text r)
-  clause_told n size r is text = go ts size is text
+pub starts_query : (line : List ℕ) → starts_with (λ a b. a == b) line (81 ∷ []) ≡ as_query line
+starts_query [] = refl
+starts_query (b ∷ bs) = grind (arith, nat_tests)
+
+module _ (number : ℕ) where
+  clause_told : (r : Result Line LineFault) → IfOk r (λ l. l.kind ≡ ClauseLine) → (read_verdict r ≡ verdict_in Clause (said_clause r)) × (read_text number r ≡ text_of number clause_text (said_clause r))
+  clause_told (Ok l) h = go (terms_of l) (counted ClauseLine l h).goals
     where
-      go : (us : Written) → 1 + n ≡ count us → clause_from us ≡ r → o1 ≡ o0 ++ rule_text us → (v ≡ verdict_in v r) × (o1 ≡ o0 ++ text_of number clause_text r)
-      go nil size is text = absurd (omega arith)
-      go (cons h gs) size is text = (ap (verdict_in v) is, text ∙ ap (λ us. o0 ++ rule_text us) (sym (written_aparts 0 (cons h gs))) ∙ ap (λ r. o0 ++ text_of number clause_text r) is)
+      go : (ts : Written) → 1 + l.goals ≡ count ts → (kind_verdict l.kind ≡ verdict_in Clause (clause_from ts)) × (kind_text l.kind ts ≡ text_of number clause_text (clause_from ts))
+      go nil size = absurd (omega arith)
+      go (cons t ts) size = (ap kind_verdict h, ap (λ k. kind_text k (cons t ts)) h ∙ ap rule_text (sym (written_aparts 0 (cons t ts))))
+  clause_told (Err e) h = (refl, refl)
 
-  pub query_told : (r : Result Query LineFault) → Ok (aparts 0 ts) ≡ r → o1 ≡ o0 ++ goal_text ts → (v ≡ verdict_in v r) × (o1 ≡ o0 ++ text_of number query_text r)
-  query_told r is text = (ap (verdict_in v) is, text ∙ ap (λ us. o0 ++ goal_text us) (sym (written_aparts 0 ts)) ∙ ap (λ r. o0 ++ text_of number query_text r) is)
+  query_told : (r : Result Line LineFault) → IfOk r (λ l. l.kind ≡ QueryLine) → (read_verdict r ≡ verdict_in Query (said_query r)) × (read_text number r ≡ text_of number query_text (said_query r))
+  query_told (Ok l) h = (ap kind_verdict h, ap (λ k. kind_text k (terms_of l)) h ∙ ap goal_text (sym (written_aparts 0 (terms_of l))))
+  query_told (Err e) h = (refl, refl)
 
-pub put_end : (o0 o1 o2 text : List ℕ) → o1 ≡ o0 ++ text → o2 ≡ o1 ++ 10 ∷ [] → o2 ≡ o0 ++ (text ++ 10 ∷ [])
-put_end o0 o1 o2 text a b = b ∙ ap (λ o. o ++ 10 ∷ []) a ∙ append_assoc o0 text (10 ∷ [])
+  module _ (line : List ℕ) (r : Result Line LineFault) where
+    pub record Told : Type 0 where
+      pub verdict : read_verdict r ≡ verdict_of line
+      pub text : read_text number r ≡ line_text number line
+
+    pub told_query : as_query line ≡ true → IfOk r (λ l. l.kind ≡ QueryLine) → said_query r ≡ read_query line → Told
+    told_query q h e =
+        let t = query_told r h in
+        record {
+          verdict = t.0 ∙ ap (verdict_in Query) e ∙ sym (cond-true (as_query line) _ _ q);
+          text = t.1 ∙ ap (text_of number query_text) e ∙ sym (cond-true (as_query line) _ _ q);
+        }
+
+    pub told_clause : as_query line ≡ false → IfOk r (λ l. l.kind ≡ ClauseLine) → said_clause r ≡ read_clause line → Told
+    told_clause q h e =
+        let t = clause_told r h in
+        record {
+          verdict = t.0 ∙ ap (verdict_in Clause) e ∙ sym (cond-false (as_query line) _ _ q);
+          text = t.1 ∙ ap (text_of number clause_text) e ∙ sym (cond-false (as_query line) _ _ q);
+        }

@@ -1,8 +1,8 @@
-// Terms as Prolog writes them.
-ghost use Rattle.std.specs.Prelude.{◌≡◌, ◌≤◌, ◌++◌, length, IfOk, OnOk};
+// Terms as Prolog writes them. Tokens and text stay two parameters: the one is taken from, the other added to, and nothing is said of both together.
+ghost use Rattle.std.specs.Prelude.{◌≡◌, ◌≤◌, ◌++◌, length, OnOk};
 ghost use Rattle.lines.specs.Said.{words_left};
 ghost use Rattle.prolog.specs.Prolog.{atom};
-ghost use Rattle.prolog.specs.Puts.{TermPut, OthersPut};
+ghost use Rattle.prolog.specs.Puts.{TermPut, ListPut};
 
 use lines::{Fields, Token, all_plain};
 use std::alloc::AllocError;
@@ -19,50 +19,44 @@ fn put_atom(name: &[u8], out: &mut Vec<u8>) -> Result<(), AllocError>
     Ok(())
 }
 
-// Appends the term that the tokens begin with, and answers the tokens after it.
-#[cycle(put_others_put_term)]
-pub(crate) fn put_term<'a>(tokens: Fields<'a>, out: &mut Vec<u8>) -> Result<Fields<'a>, AllocError>
-    ensures text { IfOk result (λ rest. TermPut (words_left tokens.entry) (words_left rest) out.old.items out.new.items) }
-    ensures fewer { IfOk result (λ rest. length (words_left rest) ≤ length (words_left tokens.entry)) }
+// Appends the term that the tokens begin with, and takes its tokens.
+#[cycle(put_list_put_term)]
+pub(crate) fn put_term(tokens: &mut Fields<'_>, out: &mut Vec<u8>) -> Result<(), AllocError>
+    ensures text { OnOk result (TermPut (words_left tokens.old) (words_left tokens.new) out.old.items out.new.items) }
+    ensures fewer { OnOk result (length (words_left tokens.new) ≤ length (words_left tokens.old)) }
 {
-    let mut rest = tokens;
-    let Some(token) = rest.next_token() else {
-        return Ok(tokens);
+    let Some(token) = tokens.next_token() else {
+        return Ok(());
     };
     match token {
-        Token::Name(name) => {
-            put_atom(name, out)?;
-            Ok(rest)
-        }
-        Token::Variable(name) => {
-            out.extend_from_slice(name)?;
-            Ok(rest)
-        }
+        Token::Name(name) => put_atom(name, out),
+        Token::Variable(name) => out.extend_from_slice(name),
         Token::Structure(name, arity) => {
             put_atom(name, out)?;
             out.push(b'(')?;
-            let others = put_term(rest, out)?;
-            let after = put_others(others, arity as usize, out)?;
-            out.push(b')')?;
-            Ok(after)
+            put_list(tokens, arity as usize, out)?;
+            Ok(out.push(b')')?)
         }
     }
 }
 
-// Appends the terms after the first of `count`, a comma and a space before each, and answers the tokens after them.
-#[cycle(put_others_put_term)]
-pub(crate) fn put_others<'a>(
-    tokens: Fields<'a>,
+// Appends `count` terms and takes their tokens, a comma and a space between each two.
+#[cycle(put_list_put_term)]
+pub(crate) fn put_list(
+    tokens: &mut Fields<'_>,
     count: usize,
     out: &mut Vec<u8>,
-) -> Result<Fields<'a>, AllocError>
-    ensures text { IfOk result (λ rest. OthersPut count (words_left tokens.entry) (words_left rest) out.old.items out.new.items) }
-    ensures fewer { IfOk result (λ rest. length (words_left rest) ≤ length (words_left tokens.entry)) }
+) -> Result<(), AllocError>
+    ensures text { OnOk result (ListPut count (words_left tokens.old) (words_left tokens.new) out.old.items out.new.items) }
+    ensures fewer { OnOk result (length (words_left tokens.new) ≤ length (words_left tokens.old)) }
 {
-    let mut rest = tokens;
+    if count == 0 {
+        return Ok(());
+    }
+    put_term(tokens, out)?;
     for _ in 1..count {
         out.extend_from_slice(b", ")?;
-        rest = put_term(rest, out)?;
+        put_term(tokens, out)?;
     }
-    Ok(rest)
+    Ok(())
 }

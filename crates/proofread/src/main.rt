@@ -3,12 +3,12 @@
 
 use lines::Gathered;
 use prolog::{Verdict, proof_line};
-use std::alloc::{AllocError, Global};
-use std::io;
-use std::io::{BufWriter, Read, Write};
+use std::alloc::Global;
+use std::io::{BufReader, BufWriter, Read, Write};
+use std::{fmt, io};
 
 // How many lines were read, and as what.
-#[derive(Clone, Copy)]
+#[derive(Clone, Copy, Default)]
 struct Totals {
     lines: usize,
     clauses: usize,
@@ -27,83 +27,64 @@ impl Totals {
     }
 }
 
-// The line under way, the totals, and the text that is still to be printed.
+impl fmt::Display for Totals {
+    fn fmt<W: fmt::Write>(&self, f: &mut fmt::Formatter<W>) -> fmt::Result {
+        let Totals {
+            lines,
+            clauses,
+            queries,
+            refused,
+        } = *self;
+        write!(
+            f,
+            "{lines} lines: {clauses} clauses, {queries} queries, {refused} refused"
+        )
+    }
+}
+
+// The line under way, what stands for it, and the totals.
 #[derive(Drop)]
 struct Proofreader {
     line: Gathered,
-    totals: Totals,
     text: Vec<u8>,
+    totals: Totals,
 }
 
 impl Proofreader {
     fn new(heap: Global) -> Proofreader {
-        let totals = Totals {
-            lines: 0,
-            clauses: 0,
-            queries: 0,
-            refused: 0,
-        };
         Proofreader {
             line: Gathered::new(),
-            totals,
             text: Vec::new(heap),
+            totals: Totals::default(),
         }
     }
 
-    // Some bytes more of the deck: LF ends a line.
-    fn take(&mut self, bytes: &[u8]) -> Result<(), AllocError> {
-        for b in bytes {
-            if *b == b'\n' {
-                self.end_line()?;
-            } else {
-                self.line.push(*b);
-            }
-        }
-        Ok(())
-    }
-
-    fn end_line(&mut self) -> Result<(), AllocError> {
+    // The line ends, and what stands for it is printed.
+    fn end_line(&mut self, output: &mut impl Write) -> io::Result<()> {
         self.totals.lines = self.totals.lines.saturating_add(1);
+        self.text.clear();
         let verdict = proof_line(self.totals.lines, self.line.line(), &mut self.text)?;
         self.totals.count(verdict);
         self.line.clear();
-        Ok(())
-    }
-
-    // The end of the deck: a last line without LF is a line.
-    fn finish(&mut self) -> Result<(), AllocError> {
-        if self.line.line().is_empty() {
-            return Ok(());
-        }
-        self.end_line()
+        output.write_all(self.text.as_slice())
     }
 }
 
 fn main(rt: HostRuntime) -> io::Result<()> {
-    let mut input = rt.stdin();
+    let input = BufReader::new(rt.alloc(), rt.stdin())?;
     let mut output = BufWriter::new(rt.alloc(), rt.stdout())?;
     let mut reader = Proofreader::new(rt.alloc());
-    let mut chunk = [0u8; 4096];
-    for _ in 0..u64::MAX {
-        let n = input.read(&mut chunk)?;
-        if n == 0 {
-            break;
+    for byte in input.bytes() {
+        match byte? {
+            b'\n' => reader.end_line(&mut output)?,
+            b => reader.line.push(b),
         }
-        reader.take(&chunk[0..n])?;
-        output.write_all(reader.text.as_slice())?;
-        reader.text.clear();
     }
-    reader.finish()?;
-    output.write_all(reader.text.as_slice())?;
-    let Totals {
-        lines,
-        clauses,
-        queries,
-        refused,
-    } = reader.totals;
-    writeln!(
-        output,
-        "% {lines} lines: {clauses} clauses, {queries} queries, {refused} refused"
-    )?;
+    // a last line without LF is a line
+    if !reader.line.line().is_empty() {
+        reader.end_line(&mut output)?;
+    }
+    let totals = reader.totals;
+    writeln!(output, "% {totals}")?;
     output.flush()
 }

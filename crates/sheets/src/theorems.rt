@@ -4,29 +4,21 @@ ghost use Rattle.sheets.specs.ReadBack.{AnswersReadBack};
 ghost use Rattle.sheets.specs.Theorems.{OnePrinted, LinesFit};
 
 // The worked cases print as written, and the faulty lines are refused.
-pub fn cases_are_worked() -> u8
+pub fn cases_are_worked()
     ensures { Worked }
-{
-    0
-}
+{}
 
 // An answer line is read back as the answer's terms.
-pub fn answers_read_back() -> u8
+pub fn answers_read_back()
     ensures { AnswersReadBack }
-{
-    0
-}
+{}
 
 // Clause lines and a query line print at most one list of lines.
-pub fn lines_print_once() -> u8
+pub fn lines_print_once()
     ensures { OnePrinted }
-{
-    0
-}
+{}
 
 // Accepted lines are as the theorems about decks and queries ask.
-pub fn lines_fit() -> u8
+pub fn lines_fit()
     ensures { LinesFit }
-{
-    0
-}
+{}

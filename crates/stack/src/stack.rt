@@ -1,4 +1,5 @@
 // The stack: its entries are the first `len` of the slice's items.
+// The slice is lent and may have any length, where a vector of fixed capacity wants a constant.
 ghost use Rattle.std.specs.Prelude.{◌≤◌, length};
 
 #[derive(Drop)]

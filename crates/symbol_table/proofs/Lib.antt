@@ -1,4 +1,3 @@
 pub mod NumberLaws
 pub mod SymbolLaws
-pub mod NameLaws
 pub mod NoteLaws

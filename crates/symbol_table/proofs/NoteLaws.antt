@@ -32,7 +32,7 @@ words_begins : (sig : Signature) (ws : List Word) → Begins sig (note_words sig
 words_begins sig [] = begins_self sig
 words_begins sig (w ∷ ws) = begins_then (word_begins sig w) (words_begins (note_word sig w) ws)
 
-pub begins_long : {a b : Signature} → Begins a b → length a ≤ length b
+begins_long : {a b : Signature} → Begins a b → length a ≤ length b
 begins_long {a} p = omega (arith, ap length p.is, length-append a p.more)
 
 -- a symbol that finds no room

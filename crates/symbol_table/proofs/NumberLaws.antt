@@ -1,18 +1,25 @@
 -- Symbols and variables by their numbers.
-use Rattle.std.proofs.Common.{◌≡◌, ℕ, zero, suc, ◌+◌, ◌<◌, ◌≤◌, Bool, true, false, cond, eqb, ltb, ◌⊎◌, List, [], ◌∷◌, ◌++◌, length, get_or, Some, None, sym, refl, ap, ◌∙◌, subst, ap₂, inl, inr, arith, length-append}
-use Rattle.std.proofs.lemmas.List.{get_or_push, get_or_append_left}
+use Rattle.std.proofs.Common.{◌≡◌, ℕ, zero, suc, ◌+◌, ◌<◌, ◌≤◌, Bool, true, false, cond, ◌&&◌, eqb, ltb, ◌⊎◌, List, [], ◌∷◌, ◌++◌, length, get_or, Some, None, sym, refl, ap, ◌∙◌, subst, ap₂, inl, inr, arith, length-append}
+use Rattle.std.specs.Prelude.{nat_eq}
+use Rattle.std.specs.Cmp.Lexicographic.{pointwise, same_text}
+use Rattle.std.proofs.lemmas.List.{get_or-map, length-map, map-append, get_or_push, get_or_append_left}
+use Rattle.std.proofs.lemmas.Bool.Decides.{nat_tests}
 use Rattle.std.proofs.lemmas.Bool.{eqb-true, eq-eqb, and_parts, and_from, lt-ltb, ltb-true, ltb-false, le-ltb, cond-true, cond-false, cases_lt}
 use Rattle.horn.specs.Terms.{Name}
 use Rattle.horn.specs.Clauses.{Variable, named, blank, is_blank, called, meant}
-use Rattle.symbol_table.specs.Symbols.{Signature, name_at, arity_at}
+use Rattle.symbol_table.specs.Symbols.{Symbol, Signature, name_at, arity_at}
 use Rattle.horn.specs.Equations.{same_name}
 use Rattle.symbol_table.specs.Numbers.{is_symbol, number_in, found, known_variable, names_of, blanks_in, number_of, noted}
 
+-- names as slices
+pub same_slices : (xs ys : Name) → pointwise nat_eq xs ys ≡ same_name xs ys
+same_slices [] [] = refl
+same_slices [] (y ∷ ys) = refl
+same_slices (x ∷ xs) [] = refl
+same_slices (x ∷ xs) (y ∷ ys) = ap (λ t. eqb x y && t) (same_slices xs ys)
+
 pub same_name_lem : (a b : Name) → same_name a b ≡ true → a ≡ b
-same_name_lem [] [] h = refl
-same_name_lem [] (y ∷ ys) h = let z : ◌≡◌ {A = ℕ} 0 1 = cc in absurd (omega arith)
-same_name_lem (x ∷ xs) [] h = let z : ◌≡◌ {A = ℕ} 0 1 = cc in absurd (omega arith)
-same_name_lem (x ∷ xs) (y ∷ ys) h = let p = and_parts (eqb x y) (same_name xs ys) h in ap₂ ◌∷◌ (eqb-true x y p.0) (same_name_lem xs ys p.1)
+same_name_lem a b h = same_text a b (sym (same_slices a b ∙ h))
 
 pub name_same : (a : Name) → same_name a a ≡ true
 name_same [] = refl
@@ -34,32 +41,21 @@ number_first [] f n k p q h = absurd (omega arith)
 number_first (s ∷ sig) f n zero p q h =
     let e : is_symbol s f n ≡ true = and_from _ _ (subst (λ g. same_name s.name g ≡ true) p (name_same s.name)) (eq-eqb s.arity n q) in
     let z = cond-true {A = ℕ} (is_symbol s f n) 0 (suc (number_in sig f n)) e in omega arith
-number_first (s ∷ sig) f n (suc k) p q h = go (is_symbol s f n) (number_first sig f n k p q (omega arith))
-  where
-    go : (t : Bool) → number_in sig f n ≤ k → cond t 0 (suc (number_in sig f n)) ≤ suc k
-    go true l = omega arith
-    go false l = omega arith
+number_first (s ∷ sig) f n (suc k) p q h = grind (arith, nat_tests, number_first sig f n k p q (omega arith))
 
 pub number_top : (sig : Signature) (f : Name) (n : ℕ) → number_in sig f n ≤ length sig
 number_top [] f n = omega arith
-number_top (s ∷ sig) f n = go (is_symbol s f n) (number_top sig f n)
-  where
-    go : (t : Bool) → number_in sig f n ≤ length sig → cond t 0 (suc (number_in sig f n)) ≤ suc (length sig)
-    go true l = omega arith
-    go false l = omega arith
+number_top (s ∷ sig) f n = grind (arith, nat_tests, number_top sig f n)
 
 -- the variable with a number
 abbrev pub at : List Variable → ℕ → Variable
 at V k = get_or V k (blank 0)
 
 pub names_long : (V : List Variable) → length (names_of V) ≡ length V
-names_long [] = refl
-names_long (x ∷ V) = ap suc (names_long V)
+names_long V = simp length-map
 
 names_at : (V : List Variable) (k : ℕ) → k < length V → (name_at (names_of V) k ≡ called (at V k)) × (arity_at (names_of V) k ≡ 0)
-names_at [] k h = absurd (omega arith)
-names_at (x ∷ V) zero h = (refl, refl)
-names_at (x ∷ V) (suc k) h = names_at V k (omega arith)
+names_at V k h = let e = get_or-map {X = Variable} {Y = Symbol} (λ x. record { name = called x; arity = 0 }) V k (blank 0) (record { name = []; arity = 0 }) h in (ap (λ s. s.name) e, ap (λ s. s.arity) e)
 
 -- each variable once, and the blanks counted
 pub record Apart (V : List Variable) : Type 0 where
@@ -90,7 +86,7 @@ module _ (V : List Variable) (x : Variable) where
 blanks_push : (V : List Variable) (x : Variable) → blanks_in (V ++ x ∷ []) ≡ blanks_in V + blanks_in (x ∷ [])
 blanks_push [] x = omega arith
 blanks_push (named v ∷ V) x = blanks_push V x
-blanks_push (blank n ∷ V) x = ap suc (blanks_push V x) ∙ omega arith
+blanks_push (blank n ∷ V) x = omega (arith, blanks_push V x)
 
 apart_push : (V : List Variable) (x : Variable) → Apart V → ((k : ℕ) → k < length V → at V k ≡ x → ⊥) → ((n : ℕ) → x ≡ blank n → n ≡ blanks_in V) → Apart (V ++ x ∷ [])
 apart_push V x a absent count = record {
@@ -177,7 +173,7 @@ module _ (V : List Variable) (v : Name) (a : Apart V) where
       new_noted (named v) (cond-false (is_blank v) (blank (blanks_in V)) (named v) plain) (omega arith)
       (λ k h q. (let there = names_at V k h in
       let first = number_first (names_of V) v 0 k (there.0 ∙ ap called q) there.1 (omega (arith, names_long V)) in omega arith))
-      (λ n q. (let z : ◌≡◌ {A = ℕ} 0 1 = cc in absurd (omega arith)))
+      (λ n q. cc)
       (sym (cond-false {A = ℕ} (is_blank v) 1 0 plain))
 
   pub noting : Noted V v
@@ -205,8 +201,8 @@ alike (blank m) (blank n) = eqb m n
 
 alike_is : (x y : Variable) → alike x y ≡ true → x ≡ y
 alike_is (named v) (named w) h = ap named (same_name_lem v w h)
-alike_is (named v) (blank n) h = let z : ◌≡◌ {A = ℕ} 0 1 = cc in absurd (omega arith)
-alike_is (blank n) (named v) h = let z : ◌≡◌ {A = ℕ} 0 1 = cc in absurd (omega arith)
+alike_is (named v) (blank n) h = cc
+alike_is (blank n) (named v) h = cc
 alike_is (blank m) (blank n) h = ap blank (eqb-true m n h)
 
 alike_self : (x : Variable) → alike x x ≡ true
@@ -235,17 +231,16 @@ called_meant : (n : ℕ) (v : Name) → called (meant n v) ≡ v
 called_meant n v = go (is_blank v) refl
   where
     blank_name : (v : Name) → is_blank v ≡ true → 95 ∷ [] ≡ v
-    blank_name [] e = let z : ◌≡◌ {A = ℕ} 0 1 = cc in absurd (omega arith)
+    blank_name [] e = cc
     blank_name (b ∷ []) e = ap (λ x. x ∷ []) (sym (eqb-true b 95 e))
-    blank_name (b ∷ c ∷ bs) e = let z : ◌≡◌ {A = ℕ} 0 1 = cc in absurd (omega arith)
+    blank_name (b ∷ c ∷ bs) e = cc
 
     go : (t : Bool) → is_blank v ≡ t → called (cond t (blank n) (named v)) ≡ v
     go true e = blank_name v e
     go false e = refl
 
 names_push : (V : List Variable) (x : Variable) → names_of (V ++ x ∷ []) ≡ names_of V ++ record { name = called x; arity = 0 } ∷ []
-names_push [] x = refl
-names_push (y ∷ V) x = ap (λ l. record { name = called y; arity = 0 } ∷ l) (names_push V x)
+names_push V x = map-append (λ y. record { name = called y; arity = 0 }) V (x ∷ [])
 
 -- a variable's number by its name
 module _ (names : Signature) (v : Name) (V : List Variable) (is : names ≡ names_of V) where
@@ -253,7 +248,7 @@ module _ (names : Signature) (v : Name) (V : List Variable) (is : names ≡ name
   known_some k h = go (is_blank v) refl (h ∙ ap (λ s. known_variable s v) is)
     where
       go : (t : Bool) → is_blank v ≡ t → Some k ≡ cond t None (found (names_of V) v 0) → (k ≡ number_of V v) × (names ≡ names_of (noted V v))
-      go true e q = let z : ◌≡◌ {A = ℕ} 0 1 = cc in absurd (omega arith)
+      go true e q = cc
       go false e q = on (ltb (number_in (names_of V) v 0) (length (names_of V))) refl q
         where
           on : (t : Bool) → ltb (number_in (names_of V) v 0) (length (names_of V)) ≡ t → Some k ≡ cond t (Some (number_in (names_of V) v 0)) None → (k ≡ number_of V v) × (names ≡ names_of (noted V v))
@@ -262,7 +257,7 @@ module _ (names : Signature) (v : Name) (V : List Variable) (is : names ≡ name
               let same : number_of V v ≡ number_in (names_of V) v 0 = cond-false (is_blank v) (length V) (number_in (names_of V) v 0) e in
               let k_is : k ≡ number_in (names_of V) v 0 = cc in
               (k_is ∙ sym same, is ∙ sym (ap names_of (cond-true (ltb (number_of V v) (length V)) V (V ++ meant (blanks_in V) v ∷ []) (lt-ltb (number_of V v) (length V) (omega (arith, names_long V))))))
-          on false l q = let z : ◌≡◌ {A = ℕ} 0 1 = cc in absurd (omega arith)
+          on false l q = cc
 
   pub known_none : None ≡ known_variable names v → (length names ≡ number_of V v) × (names ++ record { name = v; arity = 0 } ∷ [] ≡ names_of (noted V v))
   known_none h =
@@ -277,5 +272,5 @@ module _ (names : Signature) (v : Name) (V : List Variable) (is : names ≡ name
       go false e q = cond-false (is_blank v) (length V) (number_in (names_of V) v 0) e ∙ on (ltb (number_in (names_of V) v 0) (length (names_of V))) refl q
         where
           on : (t : Bool) → ltb (number_in (names_of V) v 0) (length (names_of V)) ≡ t → None ≡ cond t (Some (number_in (names_of V) v 0)) None → number_in (names_of V) v 0 ≡ length V
-          on true l q = let z : ◌≡◌ {A = ℕ} 0 1 = cc in absurd (omega arith)
+          on true l q = cc
           on false l q = omega (arith, ltb-false (number_in (names_of V) v 0) (length (names_of V)) l, number_top (names_of V) v 0, names_long V)

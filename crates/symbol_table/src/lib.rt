@@ -2,11 +2,11 @@
 #![tactic(auto)]
 
 mod lookup;
-mod names;
 mod noting;
+mod symbol;
 mod table;
 mod variables;
 
 pub use noting::note_symbols;
-pub use table::SymbolTable;
+pub use table::{SYMBOL_LIMIT, Symbol, SymbolTable};
 pub use variables::{symbol_number, variable_number};

@@ -9,7 +9,7 @@ use crate::table::SymbolTable;
 fn is_blank(name: &[u8]) -> bool
     ensures { result ≡ is_blank name.now }
 {
-    name.len() == 1 && name[0] == b'_'
+    matches!(name, [b'_'])
 }
 
 // The number of a symbol that is in the table.
@@ -17,10 +17,7 @@ pub fn symbol_number(symbols: &SymbolTable, name: &[u8], arity: u8) -> u16
     requires { number_in (signature symbols.now) name.now arity < length (signature symbols.now) }
     ensures { result ≡ number_in (signature symbols.now) name.now arity }
 {
-    match symbols.find(name, arity) {
-        Some(k) => k,
-        None => 0,
-    }
+    symbols.find(name, arity).unwrap()
 }
 
 // The number of a variable that has been noted.

@@ -1,3 +1,2 @@
 pub mod Wrote
-pub mod Digits
 pub mod NumberLaws

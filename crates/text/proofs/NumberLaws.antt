@@ -1,7 +1,7 @@
 -- Numbers with a comma before each, one after another.
-use Rattle.std.proofs.Common.{◌≡◌, ℕ, suc, ◌+◌, ◌<◌, ◌≤◌, Bool, true, false, cond, leb, List, [], ◌∷◌, ◌++◌, map, length, get_or, drop, set, Some, None, decimal, sym, refl, ap, ◌∙◌, ap₂, arith}
-use Rattle.std.proofs.lemmas.List.{at_drop_more, at_drop_all, length-append}
-use Rattle.std.proofs.lemmas.Bool.{cond-true, cond-false, le-leb, lt-leb, leb-true, leb-false}
+use Rattle.std.proofs.Common.{◌≡◌, ℕ, ◌+◌, ◌<◌, ◌≤◌, leb, List, [], ◌∷◌, ◌++◌, map, length, get_or, drop, set, Some, None, decimal, sym, ap, ◌∙◌, ap₂, arith}
+use Rattle.std.proofs.lemmas.List.{at_drop_more, length-append}
+use Rattle.std.proofs.lemmas.Bool.{cond-true, cond-false, le-leb, lt-leb}
 use Rattle.horn.specs.Notation.{tails}
 use Rattle.text.specs.Buffers.{wrote, fitting, filled}
 use Rattle.text.proofs.Wrote.{wrote_one, wrote_more}
@@ -14,14 +14,8 @@ module _ (ns : List ℕ) (i : ℕ) where
   pub left_more : i < length ns → left ns i ≡ 44 ∷ (decimal (get_or ns i 0) ++ left ns (i + 1))
   left_more h = at_drop_more (λ xs. tails (map decimal xs)) ns i 0 h
 
-  pub left_none : length ns ≤ i → left ns i ≡ []
-  left_none h = at_drop_all (λ xs. tails (map decimal xs)) ns i h
-
   pub length_more : i < length ns → length (left ns i) ≡ (length (decimal (get_or ns i 0)) + 1) + length (left ns (i + 1))
   length_more h = ap length (left_more h) ∙ omega (arith, length-append (decimal (get_or ns i 0)) (left ns (i + 1)))
-
-  pub length_none : length ns ≤ i → length (left ns i) ≡ 0
-  length_none h = ap length (left_none h)
 
   -- one number more is written
   pub put_more : (out : List ℕ) (end : ℕ) → i < length ns → end + length (left ns i) ≤ length out
@@ -43,30 +37,9 @@ fits_all line limit n e h = ap Some e ∙ sym (cond-true (leb (length line) limi
 pub fits_not : (line : List ℕ) (limit : ℕ) → limit < length line → None ≡ fitting line limit
 fits_not line limit h = sym (cond-false (leb (length line) limit) _ _ (lt-leb (length line) limit h))
 
-pub fitting_some : (line : List ℕ) (limit n : ℕ) → Some n ≡ fitting line limit → (n ≡ length line) × (length line ≤ limit)
-fitting_some line limit n = go (leb (length line) limit) refl
-  where
-    go : (t : Bool) → leb (length line) limit ≡ t → Some n ≡ cond t (Some (length line)) None → (n ≡ length line) × (length line ≤ limit)
-    go true e h = (cc, leb-true (length line) limit e)
-    go false e h = let z : ◌≡◌ {A = ℕ} 0 1 = cc in absurd (omega arith)
-
-pub fitting_none : (line : List ℕ) (limit : ℕ) → None ≡ fitting line limit → limit < length line
-fitting_none line limit = go (leb (length line) limit) refl
-  where
-    go : (t : Bool) → leb (length line) limit ≡ t → None ≡ cond t (Some (length line)) None → limit < length line
-    go true e h = let z : ◌≡◌ {A = ℕ} 0 1 = cc in absurd (omega arith)
-    go false e h = leb-false (length line) limit e
-
 -- a line that fits is written, and one that does not leaves the buffer as it was
 pub filled_fits : (line buffer : List ℕ) → length line ≤ length buffer → wrote buffer 0 line ≡ filled line buffer
 filled_fits line buffer h = ap (λ k. line ++ drop k buffer) {x = 0 + length line} {y = length line} (omega arith) ∙ sym (cond-true (leb (length line) (length buffer)) _ _ (le-leb (length line) (length buffer) h))
 
 pub filled_not : (line buffer : List ℕ) → length buffer < length line → buffer ≡ filled line buffer
 filled_not line buffer h = sym (cond-false (leb (length line) (length buffer)) _ _ (lt-leb (length line) (length buffer) h))
-
--- a letter, and then the rest of the line
-pub put_letter : (buffer : List ℕ) (letter : ℕ) (rest : List ℕ) → suc (length rest) ≤ length buffer → wrote (set buffer 0 letter) 1 rest ≡ filled (letter ∷ rest) buffer
-put_letter buffer letter rest h =
-    ap (λ o. wrote o 1 rest) (wrote_one buffer 0 letter (omega arith))
-    ∙ wrote_more buffer 0 (letter ∷ []) rest (omega arith)
-    ∙ filled_fits (letter ∷ rest) buffer h

@@ -33,7 +33,7 @@ fn put_numbers(out: &mut [u8], at: usize, numbers: &[usize])
 }
 
 // Writes the letter and the numbers, with commas between, at the buffer's beginning, and answers the length;
-// where they are longer than the buffer, it stays as it was.
+// where they are longer than the buffer, it stays as it was. No Display: that writes part by part, and may end in between.
 pub fn write_numbers(letter: u8, numbers: &[usize], buffer: &mut [u8]) -> Option<usize>
     ensures value { result ≡ fitting (numbered letter numbers.now) (length buffer.old) }
     ensures after { buffer.new ≡ filled (numbered letter numbers.now) buffer.old }

@@ -1,89 +1,72 @@
 // Terms built in a store, from the last part of a line to the first.
-ghost use Rattle.std.specs.Prelude.{◌≡◌, ℕ, ◌<◌, true, length, slice_index};
-ghost use Rattle.cells.specs.Growth.{Grew};
-ghost use Rattle.cells.specs.Stores.{cells_of, bound_of};
+ghost use Rattle.unify.specs.Grows.{Grows};
 
-use crate::parts::{PART_LIMIT, Part, first_like};
+use crate::parts::{PART_LIMIT, Part};
+use arrayvec::ArrayVec;
 use cells::Store;
+use lines::{ARITY_LIMIT, Token};
 
-// Whether all are below `top`.
-fn all_below(args: &[u16], top: u16) -> bool
-    ensures { result ≡ true → (k : ℕ) → k < length args.now → slice_index args.now k < top }
+// The most arguments of a structure.
+const ARGUMENT_LIMIT: usize = ARITY_LIMIT as usize;
+
+// The cell of a variable, which is made where there is none yet.
+fn variable(store: &mut Store, known: &mut Option<u16>) -> Option<u16>
+    ensures { Grows store.old store.new }
 {
-    for x in args {
-        if *x >= top {
-            return false;
-        }
+    if known.is_none() {
+        *known = store.push_unbound();
     }
-    true
+    *known
 }
 
-// The cell of a variable: `known` has 1 more than it, or 0.
-fn variable(store: &mut Store, known: &mut [u16; PART_LIMIT], v: usize) -> Option<u16>
-    requires { v < 2048 }
-    ensures { Grew (cells_of store.old) (bound_of store.old) (cells_of store.new) (bound_of store.new) }
+// The cell of a structure or constant; its arguments are the last terms, the first of them at the end.
+fn structure(
+    store: &mut Store,
+    symbol: u16,
+    arity: usize,
+    terms: &mut ArrayVec<u16, PART_LIMIT>,
+) -> Option<u16>
+    ensures { Grows store.old store.new }
 {
-    let was = known[v];
-    if was > 0 {
-        return Some(was - 1);
+    let mut args = ArrayVec::<u16, ARGUMENT_LIMIT>::new();
+    for _ in 0..arity {
+        args.try_push(terms.pop()?).ok()?;
     }
-    let cell = store.push_unbound()?;
-    known[v] = cell.saturating_add(1);
-    Some(cell)
-}
-
-// The cell of a structure or constant.
-fn structure(store: &mut Store, symbol: u16, args: &[u16]) -> Option<u16>
-    ensures { Grew (cells_of store.old) (bound_of store.old) (cells_of store.new) (bound_of store.new) }
-{
     let top = store.top();
-    if !all_below(args, top) {
+    if args.as_slice().iter().any(|x| *x >= top) {
         return None;
     }
-    store.push_structure(symbol, args)
+    store.push_structure(symbol, args.as_slice())
 }
 
-// The cell of a part that is like the part `first`.
+// The cell of a part; `known` are the cells of variables, at their first places.
 fn place(
     store: &mut Store,
-    known: &mut [u16; PART_LIMIT],
     part: Part,
-    first: usize,
-    args: &[u16],
+    known: &mut [Option<u16>],
+    terms: &mut ArrayVec<u16, PART_LIMIT>,
 ) -> Option<u16>
-    requires { first < 2048 }
-    ensures { Grew (cells_of store.old) (bound_of store.old) (cells_of store.new) (bound_of store.new) }
+    ensures { Grows store.old store.new }
 {
-    if part.variable {
-        return variable(store, known, first);
+    match part.token {
+        Token::Variable(_) => variable(store, known.get_mut(part.first as usize)?),
+        token => structure(store, part.first, token.arity(), terms),
     }
-    structure(store, first as u16, args)
 }
 
 // The cells of the two terms of the line; none where they are not two.
-pub fn build(store: &mut Store, line: &[u8], parts: &[Part]) -> Option<(u16, u16)>
-    ensures { Grew (cells_of store.old) (bound_of store.old) (cells_of store.new) (bound_of store.new) }
+#[tactic(auto, using(cells::proofs::GrowthLaws::grew_trans))]
+pub(crate) fn build(store: &mut Store, parts: &[Part]) -> Option<(u16, u16)>
+    ensures { Grows store.old store.new }
 {
-    let mut known = [0; PART_LIMIT];
-    let mut stack = [0u16; PART_LIMIT];
-    let mut at: usize = PART_LIMIT;
-    for i in (0..parts.len()).rev() {
-        let part = parts[i];
-        let first = first_like(line, parts, i);
-        let n = part.arity as usize;
-        if first >= PART_LIMIT || n > PART_LIMIT - at {
-            return None;
-        }
-        let end = at + n;
-        let cell = place(store, &mut known, part, first, &stack[at..end])?;
-        if end == 0 {
-            return None;
-        }
-        at = end - 1;
-        stack[at] = cell;
+    let mut known = [None; PART_LIMIT];
+    let mut terms = ArrayVec::<u16, PART_LIMIT>::new();
+    for part in parts.iter().rev() {
+        let cell = place(store, *part, &mut known, &mut terms)?;
+        terms.try_push(cell).ok()?;
     }
-    if at != PART_LIMIT - 2 {
-        return None;
+    match terms.as_slice() {
+        [b, a] => Some((*a, *b)),
+        _ => None,
     }
-    Some((stack[at], stack[at + 1]))
 }

@@ -6,16 +6,18 @@ mod parts;
 mod problem;
 mod writing;
 
-use problem::{LINE_LIMIT, Problem};
-use std::alloc::{AllocError, Global};
+use cells::Store;
+use parts::INPUT_LIMIT;
+use problem::answer;
+use std::alloc::Global;
 use std::io;
-use std::io::{BufWriter, Read, Write};
+use std::io::{BufReader, BufWriter, Read, Write};
 
-// The line under way, with at most one byte too many, the problem, and the text that is still to be printed.
+// The line under way, with at most one byte too many, the cells, and the answer.
 #[derive(Drop)]
 struct Matcher {
     line: Vec<u8>,
-    problem: Problem,
+    store: Store,
     text: Vec<u8>,
 }
 
@@ -23,43 +25,30 @@ impl Matcher {
     fn new(heap: Global) -> Matcher {
         Matcher {
             line: Vec::new(heap),
-            problem: Problem::new(),
+            store: Store::new(),
             text: Vec::new(heap),
         }
     }
 
-    // Some bytes more: LF ends a line.
-    fn take(&mut self, bytes: &[u8]) -> Result<(), AllocError> {
-        for b in bytes {
-            if *b == b'\n' {
-                self.end_line()?;
-            } else if self.line.len() <= LINE_LIMIT {
-                self.line.push(*b)?;
-            }
-        }
-        Ok(())
-    }
-
-    fn end_line(&mut self) -> Result<(), AllocError> {
-        self.problem.answer(self.line.as_slice(), &mut self.text)?;
+    // The line ends, and its answer is printed.
+    fn end_line(&mut self, output: &mut impl Write) -> io::Result<()> {
+        self.text.clear();
+        answer(&mut self.store, self.line.as_slice(), &mut self.text)?;
         self.line.clear();
-        Ok(())
+        output.write_all(self.text.as_slice())
     }
 }
 
 fn main(rt: HostRuntime) -> io::Result<()> {
-    let mut input = rt.stdin();
+    let input = BufReader::new(rt.alloc(), rt.stdin())?;
     let mut output = BufWriter::new(rt.alloc(), rt.stdout())?;
     let mut matcher = Matcher::new(rt.alloc());
-    let mut chunk = [0u8; 4096];
-    for _ in 0..u64::MAX {
-        let n = input.read(&mut chunk)?;
-        if n == 0 {
-            break;
+    for byte in input.bytes() {
+        match byte? {
+            b'\n' => matcher.end_line(&mut output)?,
+            b if matcher.line.len() <= INPUT_LIMIT => matcher.line.push(b)?,
+            _ => {}
         }
-        matcher.take(&chunk[0..n])?;
-        output.write_all(matcher.text.as_slice())?;
-        matcher.text.clear();
     }
     output.flush()
 }

@@ -6,15 +6,15 @@ use Rattle.code.specs.Passes.{notes, note_arg, full}
 use Rattle.code.proofs.ArgumentLaws.{head_is, arg_at, notes_turn}
 use Rattle.code.proofs.arguments.reads_head.Goals as goal
 
-pub note-next-requires : goal.note-next-requires
-note-next-requires c = subst (λ x. x ≤ 8) (sym (c.got.ensures ∙ ap got c.decode.ensures.value)) (arg_at got c.args.code.now c.loop-w.w-index c.requires.small (search rules))
+pub note-requires : goal.note-requires
+note-requires c = subst (λ x. x ≤ 8) (sym (c.got.ensures ∙ ap got c.decode.ensures.value)) (arg_at got c.args.code.now c.loop-w.w-index c.requires (search rules))
 
 pub loop-w-preserved : goal.loop-w-preserved
-loop-w-preserved c = sym (notes_turn got c.args.code.now c.loop-w.w-index c.loop-w.counts c.note-next.result (search rules) (c.note-next.ensures ∙ ap (note_arg c.loop-w.counts) (c.got.ensures ∙ ap got c.decode.ensures.value))) ∙ c.loop-w.invariant
+loop-w-preserved c = sym (notes_turn got c.args.code.now c.loop-w.w-index c.loop-w.counts c.note.new.counts (search rules) (c.note.ensures ∙ ap (note_arg c.loop-w.counts) (c.got.ensures ∙ ap got c.decode.ensures.value))) ∙ c.loop-w.invariant
 
 pub returns : goal.returns
 returns c =
     let code = c.args.code.now in
     c.is_full.ensures
     ∙ ap (full c.args.m) (sym (at_drop_all (λ l. notes got c.loop-w.counts (map decode l)) code c.loop-w.w-index (search rules)) ∙ c.loop-w.invariant)
-    ∙ head_is got c.args.m c.requires.low (map decode code) c.requires.small
+    ∙ head_is got c.args.m (map decode code) c.requires

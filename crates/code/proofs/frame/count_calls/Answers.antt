@@ -1,19 +1,13 @@
-use Rattle.std.proofs.Common.{true, false, ap, ◌∙◌, arith, rules}
+use Rattle.std.proofs.Common.{◌≡◌, ℕ, suc, ◌+◌, cond, map, count_by, sym, refl, ap, ◌∙◌, arith, rules}
+use Rattle.std.proofs.lemmas.List.Recursion.{is_count_by}
 use Rattle.code.specs.Instructions.{within}
-use Rattle.code.proofs.Turns.{total_step, total_end}
-use Rattle.code.proofs.frame.count_calls.Goals.{then-within, else-within}
+use Rattle.code.specs.Words.{decode}
+use Rattle.code.specs.Tests.{total}
 use Rattle.code.proofs.frame.count_calls.Goals as goal
 
-pub loop-w-preserved : goal.loop-w-preserved
-loop-w-preserved c =
-    elim c.if-within.branch [
-      | then-within w ↦
-          let e = total_step (within 16 16) c.args.code.now c.loop-w.w-index (search rules) true (w.if-within.ensures ∙ ap (within 16 16) c.decode.ensures.value) in
-          (omega (arith, w.n-is), omega (arith, w.n-is))
-      | else-within w ↦
-          let e = total_step (within 16 16) c.args.code.now c.loop-w.w-index (search rules) false (w.if-within.ensures ∙ ap (within 16 16) c.decode.ensures.value) in
-          (omega (arith, w.n-is), omega (arith, w.n-is))
-    ]
-
 pub returns : goal.returns
-returns c = let e = total_end (within 16 16) c.args.code.now c.loop-w.w-index (search rules) in omega arith
+returns c =
+    let e : c.count.result ≡ count_by (λ w. within 16 16 (decode w)) c.args.code.now = search rules in
+    let one_more : (n : ℕ) → suc n ≡ 1 + n = λ n. omega arith in
+    e ∙ sym (is_count_by (λ ws. total (within 16 16) (map decode ws)) (λ w. within 16 16 (decode w)) refl
+    (λ w ws. let n = total (within 16 16) (map decode ws) in ap (λ m. cond (within 16 16 (decode w)) m n) (one_more n)) c.args.code.now)

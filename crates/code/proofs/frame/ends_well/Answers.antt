@@ -1,28 +1,20 @@
-use Rattle.std.proofs.Common.{◌+◌, ◌<◌, ◌&&◌, eqb, map, length, drop, sym, ap, ◌∙◌, rules}
-use Rattle.std.proofs.lemmas.List.{at_drop_all}
+use Rattle.std.proofs.Common.{◌-◌, ◌&&◌, eqb, length, get_or, sym, ap, ◌∙◌, arith}
 use Rattle.code.specs.Instructions.{number}
 use Rattle.code.specs.Words.{decode}
-use Rattle.code.specs.Instructions.{within}
-use Rattle.code.specs.Rules.{closes}
-use Rattle.code.proofs.FrameLaws.{closes_last, closes_more}
+use Rattle.code.proofs.FrameLaws.{closes_parts}
 use Rattle.code.proofs.frame.ends_well.Goals as goal
 
-pub returns-then-i-code : goal.returns-then-i-code
-returns-then-i-code c = ap (λ n. eqb n 17) (c.number.ensures.value ∙ ap number c.decode-word.ensures.value) ∙ sym (closes_last c.args.code.now c.loop-i.i c.if-i-code.true) ∙ c.loop-i.invariant
+pub returns-then-all_inner : goal.returns-then-all_inner
+returns-then-all_inner c =
+    let ws = c.args.code.now in
+    let n = length ws - 1 in
+    c.is_proceed.ensures ∙ ap (λ i. eqb (number i) 17) c.decode.ensures.value
+    ∙ ap (λ t. t && eqb (number (decode (get_or ws n 0))) 17) (sym c.if-all_inner.true ∙ c.all_inner.ensures)
+    ∙ sym (closes_parts ws n (omega arith))
 
-pub returns-then-not-within : goal.returns-then-not-within
-returns-then-not-within c =
-    let code = c.args.code.now in
-    let h : c.loop-i.i + 1 < length code = search rules in
-    ap (λ t. t && closes (map decode (drop (c.loop-i.i + 1) code))) (c.if-not-within.ensures ∙ ap (within 2 16) c.decode-word.ensures.value)
-    ∙ sym (closes_more code c.loop-i.i h) ∙ c.loop-i.invariant
-
-pub loop-i-preserved : goal.loop-i-preserved
-loop-i-preserved c =
-    let code = c.args.code.now in
-    let h : c.loop-i.i + 1 < length code = search rules in
-    ap (λ t. t && closes (map decode (drop (c.loop-i.i + 1) code))) (c.if-not-within.ensures ∙ ap (within 2 16) c.decode-word.ensures.value)
-    ∙ sym (closes_more code c.loop-i.i h) ∙ c.loop-i.invariant
-
-pub returns : goal.returns
-returns c = sym (at_drop_all (λ l. closes (map decode l)) c.args.code.now c.loop-i.i (search rules)) ∙ c.loop-i.invariant
+pub returns-else-all_inner : goal.returns-else-all_inner
+returns-else-all_inner c =
+    let ws = c.args.code.now in
+    let n = length ws - 1 in
+    c.if-all_inner.false ∙ ap (λ t. t && eqb (number (decode (get_or ws n 0))) 17) (sym c.if-all_inner.false ∙ c.all_inner.ensures)
+    ∙ sym (closes_parts ws n (omega arith))

@@ -7,7 +7,7 @@ use Rattle.code.proofs.key.key_of.Goals as goal
 
 pub returns-in-Some : goal.returns-in-Some
 returns-in-Some c =
-    c.key_by.ensures ∙ ap (λ l. key_by c.in-Some.o (map decode l)) (take_rest c.args.code.now (c.loop-i.i + 1))
+    c.keyed.ensures ∙ c.key_by.ensures ∙ ap (λ l. key_by c.in-Some.o (map decode l)) (take_rest c.args.code.now (c.loop-i.i + 1))
     ∙ sym (key_turn c.args.code.now c.loop-i.i (search rules) c.decode.result c.decode.ensures.value (Some c.in-Some.o) c.in-Some.ensures) ∙ c.loop-i.invariant
 
 pub loop-i-preserved : goal.loop-i-preserved

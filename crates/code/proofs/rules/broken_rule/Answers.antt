@@ -4,7 +4,6 @@ use Rattle.code.specs.Words.{decode}
 use Rattle.code.specs.Tests.{every}
 use Rattle.code.specs.Passes.{inside}
 use Rattle.code.proofs.RangeLaws.{all_inside, all_got, all_put}
-use Rattle.code.proofs.ArgumentLaws.{every_at}
 use Rattle.code.proofs.rules.broken_rule.Goals as goal
 
 pub keeps_slots-requires : goal.keeps_slots-requires
@@ -21,8 +20,6 @@ keeps_arguments-requires c =
     let code = c.args.code.now in
     let ar = c.args.arities.now in
     record {
-      low = omega (arith, c.arity_at.ensures.value, every_at ar c.requires c.args.predicate);
-      arities = c.requires;
       got = all_got ar code (sym c.if-not-keeps_ranges.ensures);
       put = all_put ar code (sym c.if-not-keeps_ranges.ensures);
     }

@@ -1,27 +1,25 @@
-use Rattle.std.proofs.Common.{◌≡◌, ◌+◌, length, ap, ◌∙◌, arith, rules}
-use Rattle.std.proofs.lemmas.List.{take_all}
+use Rattle.std.proofs.Common.{◌≡◌, ℕ, ◌+◌, ◌<◌, [], ◌∷◌, ◌++◌, length, get_or, take, sym, ap, ◌∙◌, subst, arith, length-take-le}
+use Rattle.std.proofs.lemmas.List.{take_more, length-map}
 use Rattle.compiler.specs.Lines.{structures}
-use Rattle.compiler.proofs.StepLaws.{structures_more, structures_up, slots_more}
+use Rattle.compiler.specs.Tables.{items_of, slots_of}
+use Rattle.compiler.specs.declared.items.Item.TheVariants.{Atom}
+use Rattle.compiler.proofs.StepLaws.{structures_more, structures_up}
+use Rattle.compiler.proofs.TableLaws.{places_more, slots_more}
 use Rattle.compiler.proofs.slots.number_slots.Goals as goal
-
-pub loop-i-init : goal.loop-i-init
-loop-i-init c = (omega arith, λ k h. absurd (omega arith))
 
 pub overflow_add-next : goal.overflow_add-next
 overflow_add-next c =
-    let more = structures_more c.args.items.now c.loop-i.i (omega arith) in
-    omega (arith, more, structures_up c.args.items.now (c.loop-i.i + 1), c.loop-i.invariant.0, c.ones-next.ensures, c.requires.few)
+    omega (arith, structures_more c.args.items.now c.loop-item.item-index (omega arith), structures_up c.args.items.now (c.loop-item.item-index + 1))
 
-pub loop-i-preserved : goal.loop-i-preserved
-loop-i-preserved c = (
-  omega (arith, structures_more c.args.items.now c.loop-i.i (omega arith), c.loop-i.invariant.0, c.ones-next.ensures),
-  slots_more c.args.vars c.args.items.now c.loop-i.i _ _ (search rules) c.loop-i.invariant.0 c.loop-i.invariant.1,
-)
-
-pub returns : goal.returns
-returns c =
-    let all : c.loop-i.i ≡ length c.args.items.now = omega arith in
+pub loop-item-preserved : goal.loop-item-preserved
+loop-item-preserved c =
+    let i = c.loop-item.item-index in
+    let more = places_more c.loop-item.places.items (record { item = get_or c.args.items.now i (Atom 0); after = 0; slot = c.loop-item.next }) in
+    let long = ap length c.loop-item.invariant.items ∙ length-take-le i c.args.items.now (omega arith) in
     record {
-      slotted = λ k h. c.loop-i.invariant.1 k (omega arith);
-      count = c.loop-i.invariant.0 ∙ ap (λ l. c.args.vars + structures l) (take_all c.loop-i.i c.args.items.now (omega arith));
+      items = ap items_of c.push.ensures.items ∙ more.0 ∙ ap (λ l. l ++ get_or c.args.items.now i (Atom 0) ∷ []) c.loop-item.invariant.items ∙ sym (take_more c.args.items.now i (Atom 0) (omega arith));
+      next = omega (arith, structures_more c.args.items.now i (omega arith));
+      slotted =
+          subst (λ l. (k : ℕ) → k < i + 1 → get_or l k 0 ≡ c.args.vars + structures (take k c.args.items.now)) (sym (ap slots_of c.push.ensures.items ∙ more.1))
+          (slots_more c.args.vars c.args.items.now (slots_of c.loop-item.places.items) i _ (length-map c.loop-item.places.items (λ p. p.slot) ∙ sym (length-map c.loop-item.places.items (λ p. p.item)) ∙ long) c.loop-item.invariant.next c.loop-item.invariant.slotted);
     }

@@ -1,48 +1,46 @@
-use Rattle.std.proofs.Common.{◌≡◌, ◌+◌, ◌-◌, ◌<◌, map, length, take, drop, set, sym, ap, ◌∙◌, subst, arith}
+use Rattle.std.proofs.Common.{◌≡◌, ◌+◌, ◌-◌, [], ◌∷◌, ◌++◌, length, Some, drop, sym, ap, ◌∙◌, arith}
 use Rattle.std.specs.Option.{option_map}
+use Rattle.std.proofs.lemmas.Result.{err_from_is_err_and}
+use Rattle.std.proofs.lemmas.List.{length-map}
 use Rattle.image.specs.declared.faults.ImageFault.TheVariants.{Symbol}
-use Rattle.image.specs.Symbols.{symbol_fault, symbols_of, after_symbols, arity, extent}
-use Rattle.image.proofs.SymbolLaws.{fault_bad, fault_again, fault_next, arities_next, left_is, none_left, after_more}
+use Rattle.image.specs.Symbols.{symbol_fault, symbols_of, arity, extent}
+use Rattle.image.proofs.SymbolLaws.{fault_bad, fault_again, fault_next, arities_next, after_more, symbols_count, same_arity}
 use Rattle.image.proofs.symbols.check_symbols.Goals as goal
 
-pub returns-then-not-is_proper : goal.returns-then-not-is_proper
-returns-then-not-is_proper c =
-    record {
-      fault = sym (ap (option_map Symbol) (sym c.loop-i.invariant.0 ∙ fault_bad c.loop-i.left.now c.args.count c.loop-i.i (omega arith) c.first_symbol-symbol.result.now c.first_symbol-symbol.ensures.value c.args.words.now (sym c.if-not-is_proper.ensures)));
-      rest = tt;
-      arities = tt;
-    }
+pub returns-in_err-symbol-clause-fault : goal.returns-in_err-symbol-clause-fault
+returns-in_err-symbol-clause-fault c =
+    let p = err_from_is_err_and c.from_residual.result c.from_residual.ensures.1 in
+    let none = c.in_err-symbol.ensures.ok_part in
+    let bad = rw none at c.read_symbol.ensures in
+    let fault : c.in_err-symbol.field-0.0 ≡ Symbol c.loop-place.place = (let v = rw none at c.in_err-symbol.ensures.value in cc) in
+    rw (p.1, p.2) (
+    ap Some fault
+    ∙ sym (ap (option_map Symbol) (sym c.loop-place.invariant.fault ∙ fault_bad c.loop-place.left.now c.args.count c.loop-place.place c.loop-place-test.true c.split_symbol.result.0.now c.split_symbol.ensures.symbol c.args.words.now bad)))
 
-pub returns-then-repeats : goal.returns-then-repeats
-returns-then-repeats c =
-    record {
-      fault = sym (ap (option_map Symbol) (sym c.loop-i.invariant.0 ∙ fault_again c.loop-i.left.now c.args.count c.loop-i.i (omega arith) c.first_symbol-symbol.result.now c.first_symbol-symbol.ensures.value c.args.words.now (sym c.if-not-is_proper.ensures) (sym c.if-repeats.ensures)));
-      rest = tt;
-      arities = tt;
-    }
+pub returns-then-repeats-clause-fault : goal.returns-then-repeats-clause-fault
+returns-then-repeats-clause-fault c =
+    let good = (rw c.in_ok-symbol.ensures.ok_part at c.read_symbol.ensures) in
+    sym (ap (option_map Symbol) (sym c.loop-place.invariant.fault ∙ fault_again c.loop-place.left.now c.args.count c.loop-place.place c.loop-place-test.true c.split_symbol.result.0.now c.split_symbol.ensures.symbol c.args.words.now good.0 (sym c.if-repeats.ensures)))
 
-pub loop-i-preserved : goal.loop-i-preserved
-loop-i-preserved c =
-    let left = c.loop-i.left.now in
+pub push-requires : goal.push-requires
+push-requires c =
+    let n : length c.loop-place.arities.items ≡ c.loop-place.place = ap length c.loop-place.invariant.arities ∙ length-map (symbols_of c.loop-place.place c.args.words.now) arity ∙ symbols_count c.loop-place.place c.args.words.now in
+    (omega arith, omega (arith, n, c.loop-place-test.true, c.requires))
+
+pub loop-place-preserved : goal.loop-place-preserved
+loop-place-preserved c =
+    let left = c.loop-place.left.now in
     let words = c.args.words.now in
-    let x = c.first_symbol-symbol.result.now in
-    let i = c.loop-i.i in
-    let is = c.first_symbol-symbol.ensures.value in
-    let lt : i < c.args.count = omega arith in
-    let in_arities : i < length c.loop-i.arities = omega (arith, c.loop-i.auto.arities, c.requires) in (
-      ap (λ l. symbol_fault (symbols_of (i + 1) words) (symbols_of (c.args.count - (i + 1)) l)) (left_is left x is)
-          ∙ sym (fault_next left c.args.count i lt x is words c.loop-i.invariant.1 (sym c.if-not-is_proper.ensures) (sym c.if-repeats.ensures)) ∙ c.loop-i.invariant.0,
-      left_is left x is ∙ ap (λ l. drop (extent l) l) c.loop-i.invariant.1 ∙ sym (after_more i words),
-      ap (λ a. take (i + 1) (set c.loop-i.arities i a)) c.arity_in.ensures ∙ arities_next left c.args.count i lt x is words c.loop-i.arities c.loop-i.invariant.1 in_arities c.loop-i.invariant.2,
-    )
-
-pub returns : goal.returns
-returns c =
-    let words = c.args.words.now in
-    let i = c.loop-i.i in
-    let e : i ≡ c.args.count = omega arith in
+    let i = c.loop-place.place in
+    let own = c.split_symbol.result.0.now in
+    let is = c.split_symbol.ensures.symbol in
+    let good = (rw c.in_ok-symbol.ensures.ok_part at c.read_symbol.ensures) in
     record {
-      fault = sym (ap (option_map Symbol) (sym c.loop-i.invariant.0 ∙ ap (symbol_fault (symbols_of i words)) (none_left c.loop-i.left.now c.args.count i (omega arith))));
-      rest = c.loop-i.invariant.1 ∙ ap (λ n. after_symbols n words) e;
-      arities = subst (λ n. take n c.loop-i.arities ≡ map arity (symbols_of n words)) e c.loop-i.invariant.2;
+      fault =
+          ap (λ l. symbol_fault (symbols_of (i + 1) words) (symbols_of (c.args.count - (i + 1)) l)) c.split_symbol.ensures.rest
+          ∙ sym (fault_next left c.args.count i c.loop-place-test.true own is words c.loop-place.invariant.rest good.0 (sym c.if-repeats.ensures)) ∙ c.loop-place.invariant.fault;
+      rest = c.split_symbol.ensures.rest ∙ ap (λ l. drop (extent l) l) c.loop-place.invariant.rest ∙ sym (after_more i words);
+      arities =
+          c.push.ensures.items ∙ ap (λ a. c.loop-place.arities.items ++ a ∷ []) (c.arity.ensures.value ∙ ap (λ s. s.arity) good.1 ∙ same_arity own)
+          ∙ arities_next left c.args.count i c.loop-place-test.true own is words c.loop-place.arities.items c.loop-place.invariant.rest c.loop-place.invariant.arities;
     }

@@ -1,15 +1,13 @@
-use Rattle.std.proofs.Common.{◌≡◌, ℕ, List, length, get_or, ap, ◌∙◌, arith}
-use Rattle.image.proofs.NameLaws.{fill_more, fill_end}
+use Rattle.std.proofs.Common.{length, drop, ap, sym, ◌∙◌, arith}
+use Rattle.std.proofs.lemmas.List.{length-append, length-drop}
+use Rattle.image.specs.Bytes.{bytes_of}
+use Rattle.image.proofs.NameLaws.{length_bytes}
 use Rattle.image.proofs.symbols.name_bytes.Goals as goal
 
-pub loop-i-preserved : goal.loop-i-preserved
-loop-i-preserved c =
-    let bs = c.to_le_bytes-bytes.result in
-    let is = c.to_le_bytes-bytes.ensures in
-    fill_more c.args.words.now c.loop-i.out c.loop-i.i (get_or bs 0 0) (get_or bs 1 0) (get_or bs 2 0) (get_or bs 3 0) c.loop-i-test.true c.requires c.loop-i.invariant
-    (ap (λ (l : List ℕ). get_or l 0 0) is) (ap (λ (l : List ℕ). get_or l 1 0) is) (ap (λ (l : List ℕ). get_or l 2 0) is) (ap (λ (l : List ℕ). get_or l 3 0) is)
-
-pub returns : goal.returns
-returns c =
-    let e : c.loop-i.i ≡ length c.args.words.now = omega arith in
-    c.loop-i.invariant ∙ fill_end c.args.words.now c.loop-i.i e
+pub unwrap-requires : goal.unwrap-requires
+unwrap-requires c =
+    let ws = c.args.words.now in
+    let left = drop c.loop-word.word-index ws in
+    let e = sym (length-append c.loop-word.bytes.items (bytes_of left)) ∙ ap length c.loop-word.invariant in
+    let four = ap length c.to_le_bytes.ensures in
+    c.try_extend_from_slice.ensures.variant.1 (omega (arith, e, four, length_bytes ws, length_bytes left, length-drop c.loop-word.word-index ws, c.requires, c.loop-word-test.true))

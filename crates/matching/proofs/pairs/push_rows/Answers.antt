@@ -1,15 +1,13 @@
-use Rattle.std.proofs.Common.{◌<◌, length, ◌∙◌, arith}
-use Rattle.stack.proofs.Pushes.{pushed}
-use Rattle.matching.proofs.RowLaws.{rows_push}
+use Rattle.std.proofs.Common.{length, ap, arith, rules, length-append}
+use Rattle.matching.specs.Unifies.{rows}
+use Rattle.matching.proofs.RowLaws.{rows_length, rows_push}
 use Rattle.matching.proofs.pairs.push_rows.Goals as goal
 
+pub push-requires : goal.push-requires
+push-requires g c =
+    let i = c.args.i in
+    let j = c.args.j in
+    (search rules, omega (arith, c.requires.room, ap length c.loop-k.invariant, length-append c.args.pairs.now.items (rows i j c.loop-k.k), rows_length i j c.loop-k.k))
+
 pub loop-k-preserved : goal.loop-k-preserved
-loop-k-preserved c =
-    let stack = c.loop-k.pairs in
-    let inv = c.loop-k.invariant in
-    let room : stack.len < length stack.items.now = omega (arith, c.loop-k.invariant.0, c.loop-k.invariant.1, c.requires.room) in
-    let p = pushed _ _ c.push.result stack.len (length stack.items.now) c.push.ensures.value room c.push.ensures.cases in (
-      c.push.ensures.room ∙ inv.0,
-      omega (arith, p.0, inv.1),
-      rows_push _ _ _ c.args.i c.args.j c.loop-k.k inv.2 p.1,
-    )
+loop-k-preserved g c = rows_push _ _ _ c.args.i c.args.j c.loop-k.k c.loop-k.invariant c.push.ensures.items

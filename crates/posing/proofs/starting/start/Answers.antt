@@ -1,58 +1,94 @@
-use Rattle.std.proofs.Common.{◌≡◌, ◌<◌, ◌≤◌, [], length, drop, sym, ◌∙◌, subst, arith}
-use Rattle.std.proofs.lemmas.List.{drop_all}
+use Rattle.std.proofs.Common.{◌≡◌, ◌+◌, ◌<◌, ◌∷◌, rules, length, drop, reverse, set, sym, ◌∙◌, subst, arith}
+use Rattle.std.proofs.lemmas.List.{length-reverse}
 use Rattle.cells.specs.Stores.{cells_of}
 use Rattle.posing.specs.Stacks.{Posing}
-use Rattle.posing.specs.Queries.{Fit, waits, asked}
-use Rattle.posing.specs.Starts.{from_top, no_entry, no_goal}
-use Rattle.posing.proofs.PoseLaws.{posing_none}
-use Rattle.posing.proofs.StartLaws.{top_length, piece_before, fit_before, asked_before, room_before, started, stands_empty}
+use Rattle.posing.specs.Queries.{Fit}
+use Rattle.posing.specs.Starts.{from_top, no_goal}
+use Rattle.posing.proofs.StartLaws.{top_length, top_push, piece_before, cut_before, fit_before, costs_before, started, posing_first}
 use Rattle.posing.proofs.starting.start.Goals as goal
 
-pub loop-i-init : goal.loop-i-init
-loop-i-init c =
-    let table = c.args.table.now in
-    let S = c.args.slots.now in (
-      subst (λ ps. Posing table S ps (cells_of c.args.store.now) S [] []) (sym (drop_all (length c.args.pieces.now) c.args.pieces.now (omega arith)))
-          (subst (λ H. Posing table S [] H S [] []) (sym c.requires.store) (posing_none table S (stands_empty table S c.requires.slots))),
-      omega arith,
-    )
+pub loop-piece-init : goal.loop-piece-init
+loop-piece-init c =
+    let rest : c.into_iter-piece-iterator.result.iter.rest.now ≡ c.args.pieces.now = cc in
+    let h = posing_first c.args.table.now c.args.slots.now c.args.pieces.now c.into_iter-piece-iterator.result.iter.rest.now (cells_of c.args.store.now) c.new-entries.result.items c.requires.slots rest c.requires.store c.new-entries.ensures in
+    record { cut = h.0; posing = h.1 }
 
-pub start_piece-next-requires : goal.start_piece-next-requires
-start_piece-next-requires c =
+pub start_piece-requires-clause-fit : goal.start_piece-requires-clause-fit
+start_piece-requires-clause-fit c =
     let pieces = c.args.pieces.now in
-    let i = c.loop-i.i in
-    let p = c.loop-i.invariant.0 in
-    let some : 0 < i = omega (arith, c.loop-i-test.true) in
-    let le : i ≤ length pieces = c.loop-i.invariant.1 in
-    let entries : c.loop-i.depth.entries ≡ waits (drop i pieces) = sym (top_length no_entry c.loop-i.stack c.loop-i.depth.entries) ∙ p.count in
-    let goals : c.loop-i.depth.goals ≡ asked (drop i pieces) = sym (top_length no_goal c.loop-i.goals c.loop-i.depth.goals) ∙ p.goals_count in
-    let room = room_before pieces i some le in
+    let p = c.loop-piece.invariant.posing in
+    fit_before pieces c.loop-piece.piece-iterator.iter.rest.now c.next.new.self.iter.rest.now c.in-Some.piece.now c.loop-piece.invariant.cut c.in-Some.ensures.steps c.args.table.now (length c.loop-piece.slots) (length c.loop-piece.entries.items)
+    (subst (λ m. Fit c.args.table.now m pieces) (sym c.loop-piece.auto.slots) c.requires.fit) (sym (length-reverse c.loop-piece.entries.items) ∙ p.count)
+
+pub start_piece-requires-clause-few : goal.start_piece-requires-clause-few
+start_piece-requires-clause-few c =
+    let p = c.loop-piece.invariant.posing in
+    let costs = costs_before c.args.pieces.now c.loop-piece.piece-iterator.iter.rest.now c.next.new.self.iter.rest.now c.in-Some.piece.now c.loop-piece.invariant.cut c.in-Some.ensures.steps in
+    omega (arith, p.paid, costs.0, c.requires.light, length-reverse c.loop-piece.entries.items)
+
+pub start_piece-requires-clause-room : goal.start_piece-requires-clause-room
+start_piece-requires-clause-room c =
+    let p = c.loop-piece.invariant.posing in
+    let costs = costs_before c.args.pieces.now c.loop-piece.piece-iterator.iter.rest.now c.next.new.self.iter.rest.now c.in-Some.piece.now c.loop-piece.invariant.cut c.in-Some.ensures.steps in
+    omega (arith, p.paid, costs.0, c.requires.light, length-reverse c.loop-piece.entries.items)
+
+pub bounds-goals-count : goal.bounds-goals-count
+bounds-goals-count c =
+    let l = c.loop-piece in
+    let next = c.in-Some-start_piece.ensures (from_top no_goal l.goals l.count) c.args.slots.now _ l.invariant.posing in
+    let costs = costs_before c.args.pieces.now l.piece-iterator.iter.rest.now c.next.new.self.iter.rest.now c.in-Some.piece.now l.invariant.cut c.in-Some.ensures.steps in
+    let lt : l.count < length l.goals = omega (arith, next.goals_count, top_length no_goal l.goals l.count, costs.1, c.requires.goals, l.auto.goals) in
+    lt
+
+pub offset_bounds-goals-count : goal.offset_bounds-goals-count
+offset_bounds-goals-count c =
+    let l = c.loop-piece in
+    let next = c.in-Some-start_piece.ensures (from_top no_goal l.goals l.count) c.args.slots.now _ l.invariant.posing in
+    let costs = costs_before c.args.pieces.now l.piece-iterator.iter.rest.now c.next.new.self.iter.rest.now c.in-Some.piece.now l.invariant.cut c.in-Some.ensures.steps in
+    let lt : l.count < length l.goals = omega (arith, next.goals_count, top_length no_goal l.goals l.count, costs.1, c.requires.goals, l.auto.goals) in
+    search rules
+
+pub overflow_add-count : goal.overflow_add-count
+overflow_add-count c =
+    let l = c.loop-piece in
+    let next = c.in-Some-start_piece.ensures (from_top no_goal l.goals l.count) c.args.slots.now _ l.invariant.posing in
+    let costs = costs_before c.args.pieces.now l.piece-iterator.iter.rest.now c.next.new.self.iter.rest.now c.in-Some.piece.now l.invariant.cut c.in-Some.ensures.steps in
+    let lt : l.count < length l.goals = omega (arith, next.goals_count, top_length no_goal l.goals l.count, costs.1, c.requires.goals, l.auto.goals) in
+    search rules
+
+pub loop-piece-preserved-in-Some-start_piece : goal.loop-piece-preserved-in-Some-start_piece
+loop-piece-preserved-in-Some-start_piece c =
+    let l = c.loop-piece in
+    let next = c.in-Some-start_piece.ensures (from_top no_goal l.goals l.count) c.args.slots.now _ l.invariant.posing in
+    let costs = costs_before c.args.pieces.now l.piece-iterator.iter.rest.now c.next.new.self.iter.rest.now c.in-Some.piece.now l.invariant.cut c.in-Some.ensures.steps in
+    let lt : l.count < length l.goals = omega (arith, next.goals_count, top_length no_goal l.goals l.count, costs.1, c.requires.goals, l.auto.goals) in
+    let pieces = c.args.pieces.now in
+    let step = piece_before pieces l.piece-iterator.iter.rest.now c.next.new.self.iter.rest.now c.in-Some.piece.now l.invariant.cut c.in-Some.ensures.steps in
     record {
-      stands = p.turned.stands;
-      sits = p.sits;
-      fit = fit_before pieces i some le c.args.table.now (length c.loop-i.slots) c.loop-i.depth.entries (subst (λ m. Fit c.args.table.now m pieces) (sym c.loop-i.auto.slots) c.requires.fit) entries;
-      stack = omega (arith, room.0, entries, c.requires.stack, c.loop-i.auto.stack);
-      goals = omega (arith, goals, asked_before pieces i some le, c.requires.goals, c.loop-i.auto.goals);
-      room = omega (arith, p.paid, room.1, c.requires.light, top_length no_entry c.loop-i.stack c.loop-i.depth.entries);
+      cut = cut_before pieces l.piece-iterator.iter.rest.now c.next.new.self.iter.rest.now c.in-Some.piece.now l.invariant.cut c.in-Some.ensures.steps;
+      posing = subst (λ ps. Posing c.args.table.now c.args.slots.now ps (cells_of c.start_piece.new.store) c.start_piece.new.slots (reverse c.start_piece.new.entries.items) (from_top no_goal (set l.goals l.count c.in-Some-start_piece.goal) (l.count + 1))) (sym step)
+          (subst (λ B. Posing c.args.table.now c.args.slots.now (c.in-Some.piece.now ∷ drop (length l.piece-iterator.iter.rest.now) pieces) (cells_of c.start_piece.new.store) c.start_piece.new.slots (reverse c.start_piece.new.entries.items) B)
+          (sym (top_push no_goal l.goals l.count c.in-Some-start_piece.goal lt)) next);
     }
 
-pub loop-i-preserved : goal.loop-i-preserved
-loop-i-preserved c =
+pub loop-piece-preserved : goal.loop-piece-preserved
+loop-piece-preserved c =
+    let l = c.loop-piece in
+    let G = from_top no_goal l.goals l.count in
+    let next = c.in_default.ensures G c.args.slots.now _ l.invariant.posing in
     let pieces = c.args.pieces.now in
-    let i = c.loop-i.i in
-    let some : 0 < i = omega (arith, c.loop-i-test.true) in
-    let le : i ≤ length pieces = c.loop-i.invariant.1 in (
-      subst (λ ps. Posing c.args.table.now c.args.slots.now ps (cells_of c.start_piece-next.new.store) c.start_piece-next.new.slots (from_top no_entry c.start_piece-next.new.stack c.start_piece-next.result.entries) (from_top no_goal c.start_piece-next.new.goals c.start_piece-next.result.goals))
-          (sym (piece_before pieces i some le)) (c.start_piece-next.ensures c.args.slots.now (drop i pieces) c.loop-i.invariant.0),
-      omega arith,
-    )
+    let step = piece_before pieces l.piece-iterator.iter.rest.now c.next.new.self.iter.rest.now c.in-Some.piece.now l.invariant.cut c.in-Some.ensures.steps in
+    record {
+      cut = cut_before pieces l.piece-iterator.iter.rest.now c.next.new.self.iter.rest.now c.in-Some.piece.now l.invariant.cut c.in-Some.ensures.steps;
+      posing = subst (λ ps. Posing c.args.table.now c.args.slots.now ps (cells_of c.start_piece.new.store) c.start_piece.new.slots (reverse c.start_piece.new.entries.items) G) (sym step) next;
+    }
 
 pub returns : goal.returns
 returns c =
+    let l = c.loop-piece in
     let pieces = c.args.pieces.now in
-    let none : c.loop-i.i ≡ 0 = omega (arith, c.loop-i-test.false) in
-    let p = subst (λ i. Posing c.args.table.now c.args.slots.now (drop i pieces) (cells_of c.loop-i.store) c.loop-i.slots (from_top no_entry c.loop-i.stack c.loop-i.depth.entries) (from_top no_goal c.loop-i.goals c.loop-i.depth.goals)) none c.loop-i.invariant.0 in
+    let p = subst (λ n. Posing c.args.table.now c.args.slots.now (drop n pieces) (cells_of l.store) l.slots (reverse l.entries.items) (from_top no_goal l.goals l.count)) c.in-None.ensures.steps.0 l.invariant.posing in
     record {
-      value = sym (top_length no_goal c.loop-i.goals c.loop-i.depth.goals) ∙ p.goals_count;
-      started = started c.args.table.now c.args.slots.now pieces _ c.loop-i.slots _ _ c.requires.slots (p.count ∙ c.requires.whole) p;
+      value = sym (top_length no_goal l.goals l.count) ∙ p.goals_count;
+      started = started c.args.table.now c.args.slots.now pieces _ l.slots _ _ c.requires.slots (p.count ∙ c.requires.whole) p;
     }

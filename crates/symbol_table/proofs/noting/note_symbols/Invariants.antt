@@ -7,8 +7,8 @@ use Rattle.symbol_table.proofs.noting.note_symbols.Given as goal
 
 abbrev pub invariant-loop-token : goal.invariant-loop-token
 invariant-loop-token l =
-    (note_words (signature l.symbols) (words_left l.left) ≡ note_words (signature l.initial.symbols) (words_left l.body))
-    × Fines (words_left l.left) × Begins (signature l.initial.symbols) (signature l.symbols)
+    (note_words (signature l.symbols) (words_left l.body) ≡ note_words (signature l.initial.symbols) (words_left l.initial.body))
+    × Fines (words_left l.body) × Begins (signature l.initial.symbols) (signature l.symbols)
 
 abbrev pub decreases-loop-token : goal.decreases-loop-token
-decreases-loop-token l = length l.left.rest.now
+decreases-loop-token l = length l.body.rest.now

@@ -1,7 +1,7 @@
-use Rattle.std.proofs.Common.{◌≡◌, ◌+◌, ◌<◌, length, get_or, set, decimal, sym, ap, ◌∙◌, ap₂, arith, length-set, rules}
+use Rattle.std.proofs.Common.{◌≡◌, ◌+◌, ◌<◌, length, get_or, set, decimal, ap, ◌∙◌, ap₂, arith, length-set, rules}
 use Rattle.text.specs.Buffers.{wrote}
-use Rattle.text.proofs.Wrote.{wrote_none, length_wrote}
-use Rattle.text.proofs.NumberLaws.{left, left_none, length_more, put_more}
+use Rattle.text.proofs.Wrote.{length_wrote}
+use Rattle.text.proofs.NumberLaws.{left, length_more, put_more}
 use Rattle.text.proofs.numbers.put_numbers.Goals as goal
 
 pub bounds-out-end : goal.bounds-out-end
@@ -9,12 +9,6 @@ bounds-out-end c =
     let ns = c.args.numbers.now in
     let lt : c.loop-n.n-index < length ns = search rules in
     omega (arith, c.loop-n.invariant.0, length_more ns c.loop-n.n-index lt)
-
-pub put_decimal-end-requires : goal.put_decimal-end-requires
-put_decimal-end-requires c =
-    let ns = c.args.numbers.now in
-    let lt : c.loop-n.n-index < length ns = search rules in
-    omega (arith, c.loop-n.invariant.0, length_more ns c.loop-n.n-index lt, length-set c.loop-n.out c.loop-n.end 44)
 
 pub loop-n-preserved : goal.loop-n-preserved
 loop-n-preserved c =
@@ -31,10 +25,3 @@ loop-n-preserved c =
       omega (arith, at, size, long, c.loop-n.invariant.0),
       ap₂ (λ o k. wrote o k (left ns (i + 1))) is at ∙ put_more ns i out end lt c.loop-n.invariant.0 ∙ c.loop-n.invariant.1,
     )
-
-pub returns : goal.returns
-returns c =
-    let ns = c.args.numbers.now in
-    sym (wrote_none c.loop-n.out c.loop-n.end)
-    ∙ ap (wrote c.loop-n.out c.loop-n.end) (sym (left_none ns c.loop-n.n-index (search rules)))
-    ∙ c.loop-n.invariant.1

@@ -4,13 +4,11 @@ use Rattle.text.specs.Buffers.{wrote}
 use Rattle.text.proofs.Wrote.{wrote_one, wrote_more, length_wrote}
 use Rattle.answers.proofs.buffer.WriteSink.put.Goals as goal
 
-pub returns-then-len-out : goal.returns-then-len-out
-returns-then-len-out c = record { after = λ s o bs h. (omega (arith, h.size, h.len, length_push bs c.args.b), (bs, h)) }
-
 pub returns : goal.returns
 returns c = record {
-  after = λ s o bs h.
-      let out = c.args.out.now in
+  after = λ s bs h.
+      let o = s.buffer.now in
+      let out = c.args.self.now.buffer.now in
       let b = c.args.b in
       let len = c.args.self.now.len in
       let more = length_push bs b in
@@ -18,6 +16,7 @@ returns c = record {
       let small : s.len + length bs ≤ length o = omega (arith, h.size, h.len) in
       let lt' : s.len + length bs < length (wrote o s.len bs) = omega (arith, h.size, h.len, length_wrote o s.len bs small) in
       record {
+        same_buffer = h.same_buffer;
         size = length-set out len b ∙ h.size;
         len = omega (arith, h.len, more);
         fits = omega (arith, h.size, h.len, more);

@@ -1,31 +1,46 @@
-use Rattle.std.proofs.Common.{◌≤◌, arith, rules}
-use Rattle.choosers.specs.Chained.{key_at}
+use Rattle.std.proofs.Common.{ℕ, ◌-◌, ◌<◌, ◌≤◌, List, length, Option, sym, subst, arith}
+use Rattle.choosers.specs.declared.chains.Link.{Link}
+use Rattle.choosers.specs.Chained.{link_at, key_at}
 use Rattle.choosers.specs.Rows.{Clash}
-use Rattle.choosers.proofs.PickLaws.{walk_next, walk_less, walk_found, walk_done}
+use Rattle.choosers.proofs.PickLaws.{Walked, ahead, walk_start, walk_next, walk_less, walk_found, walk_done}
 use Rattle.choosers.proofs.chains.Chains.find.Goals as goal
 use Rattle.choosers.proofs.chains.Chains.find.Goals.{else-i-after-via-then-i-after+else-not-clashes, else-i-after-via-else-i-after}
+
+pub loop-at-init : goal.loop-at-init
+loop-at-init c = walk_start c.args.self.now.links.items c.args.symbol c.args.key c.args.after c.start-at.result c.start-at.ensures
 
 pub loop-at-smaller : goal.loop-at-smaller
 loop-at-smaller c =
     let s = c.args.self.now in
-    walk_less s.len s.rows s.next s.first s.last c.args.symbol c.args.after (search rules) s.chained c.loop-at.at c.loop-at-test.true
+    let xs = s.links.items in
+    let n = c.in-Some.n in
+    let w = subst (Walked xs c.args.symbol c.args.key c.args.after) c.in-Some.is c.loop-at.invariant in
+    subst (λ (o : Option ℕ). ahead (length xs) (link_at c.deref.result.now n).next < ahead (length xs) o) (sym c.in-Some.is)
+    (subst (λ (ys : List Link). ahead (length xs) (link_at ys n).next < length xs - n) (sym c.deref.ensures.0) (walk_less xs s.ends c.args.symbol c.args.key c.args.after n s.chained w))
 
 pub loop-at-preserved : goal.loop-at-preserved
 loop-at-preserved c =
     let s = c.args.self.now in
-    let passed : c.args.after ≤ c.loop-at.at → Clash c.args.key (key_at s.rows c.loop-at.at) =
+    let xs = s.links.items in
+    let n = c.in-Some.n in
+    let w = subst (Walked xs c.args.symbol c.args.key c.args.after) c.in-Some.is c.loop-at.invariant in
+    let passed : c.args.after ≤ n → Clash c.args.key (key_at xs n) =
     λ low. elim c.else-i-after.branch [
-      | else-i-after-via-then-i-after+else-not-clashes w ↦ w.if-not-clashes.ensures
+      | else-i-after-via-then-i-after+else-not-clashes w ↦ subst (λ (ys : List Link). Clash c.args.key (key_at ys n)) c.deref.ensures.0 w.if-not-clashes.ensures
       | else-i-after-via-else-i-after w ↦ absurd (omega (arith, w.if-i-after.false, low))
     ] in
-    walk_next s.len s.rows s.next s.first s.last c.args.symbol c.args.after (search rules) s.chained c.args.key c.loop-at.at c.loop-at-test.true passed c.loop-at.invariant
+    subst (λ (ys : List Link). Walked xs c.args.symbol c.args.key c.args.after (link_at ys n).next) (sym c.deref.ensures.0)
+    (walk_next xs s.ends c.args.symbol c.args.key c.args.after n s.chained w passed)
 
 pub returns-then-not-clashes : goal.returns-then-not-clashes
 returns-then-not-clashes c =
     let s = c.args.self.now in
-    walk_found s.len s.rows c.args.symbol c.args.key c.args.after c.loop-at.at s.whole s.within c.loop-at.invariant c.loop-at-test.true c.if-i-after.true c.if-not-clashes.ensures
+    let xs = s.links.items in
+    let n = c.in-Some.n in
+    let w = subst (Walked xs c.args.symbol c.args.key c.args.after) c.in-Some.is c.loop-at.invariant in
+    walk_found xs c.args.symbol c.args.key c.args.after n w c.if-i-after.true (subst (λ (ys : List Link). Clash c.args.key (key_at ys n) → ⊥) c.deref.ensures.0 c.if-not-clashes.ensures)
 
 pub returns : goal.returns
 returns c =
-    let s = c.args.self.now in
-    walk_done s.len s.rows c.args.symbol c.args.key c.args.after c.loop-at.at s.whole s.within c.loop-at.invariant c.loop-at-test.false
+    let xs = c.args.self.now.links.items in
+    walk_done xs c.args.symbol c.args.key c.args.after (subst (Walked xs c.args.symbol c.args.key c.args.after) c.in_default.is c.loop-at.invariant)

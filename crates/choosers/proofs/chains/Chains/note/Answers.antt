@@ -1,37 +1,25 @@
-use Rattle.std.proofs.Common.{get_or, refl, ◌∙◌, rules}
-use Rattle.std.proofs.lemmas.List.{length-set}
-use Rattle.choosers.proofs.NoteLaws.{chain_new, chain_linked}
-use Rattle.choosers.proofs.RowLaws.{taken, refused, rows_more, rows_same}
+use Rattle.std.proofs.Common.{◌<◌, length, rules, ◌∙◌, ap}
+use Rattle.choosers.proofs.NoteLaws.{chain_first, chain_linked, rows, rows_more, rows_linked}
+use Rattle.choosers.proofs.chains.Chains.note.Goals.{in-Some, in_default}
 use Rattle.choosers.proofs.chains.Chains.note.Goals as goal
 
-pub returns-then-at-ge-LIMIT : goal.returns-then-at-ge-LIMIT
-returns-then-at-ge-LIMIT c =
+pub invariant_of-self-clause-chained : goal.invariant_of-self-clause-chained
+invariant_of-self-clause-chained c =
     let s = c.args.self.now in
-    record {
-      taken = refused s.len s.rows s.whole s.within (search rules);
-      rows = rows_same s.len s.rows s.whole c.args.row s.within (search rules);
-    }
+    elim c.match-self-s.branch [
+      | in-Some w ↦
+          chain_linked s.links.items s.ends c.args.row c.push.new.self.items c.len-at.result c.match-self-s.first (search rules) (search rules) c.len-at.ensures.value s.chained
+          w.in-Some.ends w.deref_mut.result.now w.in-Some.is w.first-is w.deref_mut.ensures.value (rw w.self-is at c.push.ensures.items)
+      | in_default w ↦
+          chain_first s.links.items s.ends c.args.row c.push.new.self.items c.len-at.result c.match-self-s.first (search rules) (search rules) c.len-at.ensures.value s.chained
+          w.in_default.is w.first-is (rw w.self-is at c.push.ensures.items)
+    ]
 
-pub invariant_of-self : goal.invariant_of-self
-invariant_of-self c =
-    let s = c.args.self.now in record { within = search rules; whole = length-set s.rows s.len c.args.row ∙ s.whole; chained = chain_linked s.len s.rows s.next s.first s.last c.args.row (get_or s.last c.args.row.symbol 0) s.whole (search rules) (search rules) (search rules) (search rules) refl (search rules) (search rules) s.chained }
-
-pub returns-then-before-at : goal.returns-then-before-at
-returns-then-before-at c =
+pub returns-clause-rows : goal.returns-clause-rows
+returns-clause-rows c =
     let s = c.args.self.now in
-    record {
-      taken = taken s.len s.rows s.whole (search rules);
-      rows = rows_more s.len s.rows s.whole c.args.row (search rules);
-    }
-
-pub invariant_of-self-2 : goal.invariant_of-self-2
-invariant_of-self-2 c =
-    let s = c.args.self.now in record { within = search rules; whole = length-set s.rows s.len c.args.row ∙ s.whole; chained = chain_new s.len s.rows s.next s.first s.last c.args.row (get_or s.last c.args.row.symbol 0) s.whole (search rules) (search rules) (search rules) (search rules) refl (search rules) (search rules) s.chained }
-
-pub returns : goal.returns
-returns c =
-    let s = c.args.self.now in
-    record {
-      taken = taken s.len s.rows s.whole (search rules);
-      rows = rows_more s.len s.rows s.whole c.args.row (search rules);
-    }
+    let room : length s.links.items < 256 = search rules in
+    elim c.match-self-s.branch [
+      | in-Some w ↦ rows_linked s.links.items c.args.row room w.deref_mut.result.now c.push.new.self.items w.in-Some.ends.last c.len-at.result w.deref_mut.ensures.value c.len-at.ensures.value (rw w.self-is at c.push.ensures.items)
+      | in_default w ↦ ap rows (rw w.self-is at c.push.ensures.items) ∙ rows_more s.links.items c.args.row room
+    ]

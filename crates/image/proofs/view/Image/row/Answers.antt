@@ -1,9 +1,9 @@
-use Rattle.std.proofs.Common.{Some, ap, ◌∙◌, arith}
-use Rattle.image.proofs.RowLaws.{nth_some, nth_none}
+use Rattle.std.proofs.Common.{arith}
+use Rattle.image.proofs.RowLaws.{nth_row, nth_past}
 use Rattle.image.proofs.view.Image.row.Goals as goal
 
-pub returns-then-i-self : goal.returns-then-i-self
-returns-then-i-self c = nth_none c.args.self.rows.now c.args.i (omega arith)
+pub returns-in_err-words : goal.returns-in_err-words
+returns-in_err-words c = rw (c.from_residual.ensures, ← c.rows.ensures) (grind (arith, nth_past))
 
 pub returns : goal.returns
-returns c = ap Some c.row_at.ensures ∙ nth_some c.args.self.rows.now c.args.i (omega arith)
+returns c = rw (← c.rows.ensures) (grind (arith, nth_row))

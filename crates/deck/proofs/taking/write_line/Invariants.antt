@@ -1,5 +1,0 @@
-use Rattle.std.proofs.Common.{◌≡◌, take, drop}
-use Rattle.deck.proofs.taking.write_line.Given as goal
-
-abbrev pub invariant-loop-i : goal.invariant-loop-i
-invariant-loop-i l = (take l.at l.out ≡ take l.at l.initial.out) × (take l.i (drop l.at l.out) ≡ take l.i l.line)
