@@ -5,7 +5,7 @@ ghost use Rattle.choosers.specs.Chained.{Chained};
 use crate::row::Row;
 use arrayvec::ArrayVec;
 
-// The most rows.
+// The most rows: as many as a deck has clauses, of which this crate knows nothing.
 pub(crate) const ROW_LIMIT: usize = 256;
 
 // The symbols of 8 bits.

@@ -24,6 +24,7 @@ pub type FirstArgument = Walker<true>;
 
 impl<const BY_KEY: bool> Walker<BY_KEY> {
     // The symbol's next row above `after` that does not clash with the key that it goes by.
+    // Symbol, key and `after` stay three parameters: a walk keeps two and moves the third.
     pub fn next_row(&self, symbol: u8, key: u16, after: usize) -> Option<usize>
         ensures { Finds (rows_of self.now.chains) symbol (if BY_KEY then key else 0) after result }
     {

@@ -8,7 +8,7 @@ pub const CODE_LIMIT: usize = 8192;
 // The slots that a clause's code opens.
 pub const SLOT_LIMIT: usize = 128;
 
-// Its words between allocate and proceed.
+// Its words between allocate and proceed: as many as a line may weigh, of which this crate knows nothing.
 pub const WORD_LIMIT: usize = 128;
 
 // The goals of a clause. This and the next are limits of a line too, of which this crate knows nothing.

@@ -79,6 +79,7 @@ fn read_symbol(words: &[u32]) -> Option<Symbol>
     let [first, name @ ..] = words else {
         return None;
     };
+    // by 256, as the definition has the word
     let size = (*first % 256) as usize;
     let arity = *first / 256;
     if arity > ARITY_LIMIT as u32 || name.len() != size.div_ceil(4) || size > NAME_LIMIT {

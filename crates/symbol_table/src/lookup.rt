@@ -25,7 +25,7 @@ impl SymbolTable {
         self.symbols.len()
     }
 
-    // The arity of the symbol with this number.
+    // The arity of the symbol with this number, or 0 where there is none: it cannot fail.
     pub fn arity(&self, symbol: u16) -> u8
         ensures value { result ≡ arity_at (signature self.now) symbol }
         ensures small { result ≤ 8 }
@@ -44,7 +44,7 @@ impl SymbolTable {
         arities
     }
 
-    // The name of the symbol with this number, or no bytes where there is none.
+    // The name of the symbol with this number, or no bytes where there is none: it cannot fail.
     pub fn name(&self, symbol: u16) -> &[u8]
         ensures { result.now ≡ name_at (signature self.now) symbol }
     {

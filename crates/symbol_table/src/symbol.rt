@@ -41,7 +41,7 @@ impl Symbol {
     }
 }
 
-// What stands in a table's unused places.
+// What stands in a table's unused places. No derive: the law is of the symbol that it stands for, and not of its fields.
 impl Default for Symbol {
     ghost is_default = { λ s. symbol_of s ≡ record { name = []; arity = 0 } };
 
