@@ -3,7 +3,7 @@ use code::{Kind, decode, first_of, look_up, second_of};
 use image::{FORMAT, Image, ImageFault, Row, Symbol};
 use lines::{REFUSAL_LIMIT, Refusal};
 use std::alloc::{AllocError, Global};
-use std::fmt;
+use std::{fmt, str};
 
 // The one line of a fault, which a refusal writes into a buffer.
 pub(crate) fn list_fault(heap: Global, fault: ImageFault) -> Result<String, AllocError> {
@@ -21,10 +21,9 @@ impl fmt::Display for Named<'_> {
         let Some(symbol) = self.0 else {
             return Ok(());
         };
-        for b in symbol.name() {
-            f.write_char(*b as char)?;
-        }
-        write!(f, "/{}", symbol.arity())
+        // a name is ASCII, and is written at once
+        let name = str::from_utf8(symbol.name()).map_err(|_| fmt::Error)?;
+        write!(f, "{name}/{}", symbol.arity())
     }
 }
 
