@@ -1,3 +1,4 @@
 pub mod NumberLaws
 pub mod SymbolLaws
+pub mod NameLaws
 pub mod NoteLaws

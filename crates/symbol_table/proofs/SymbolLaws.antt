@@ -1,31 +1,41 @@
--- Symbols in their table.
-use Rattle.std.proofs.Common.{◌≡◌, ℕ, zero, suc, ◌+◌, ◌≤◌, cond, List, [], ◌∷◌, map, length, refl, ap, arith}
-use Rattle.std.specs.List.{position, position_or_len}
-use Rattle.std.proofs.lemmas.List.{length-map}
-use Rattle.std.proofs.lemmas.List.Recursion.{is_position_or_len}
-use Rattle.horn.specs.Terms.{Name}
+-- Lists of the first values of a function.
+use Rattle.std.proofs.Common.{◌≡◌, ℕ, zero, suc, ◌+◌, ◌<◌, ◌≤◌, [], ◌∷◌, ◌++◌, map, length, get_or, take, sym, refl, ap, ◌∙◌, inl, inr, arith, length-append}
+use Rattle.std.proofs.lemmas.List.{get_or_push, get_or_append_left, get_or_past, map-append, take_more}
+use Rattle.std.proofs.lemmas.Bool.{cases_eq, cases_lt}
+use Rattle.symbol_table.specs.Tables.{up_to, symbol_in, signature}
 use Rattle.symbol_table.specs.Symbols.{arity_at}
-use Rattle.symbol_table.specs.Numbers.{is_symbol, number_in, found}
-use Rattle.symbol_table.specs.Tables.{symbol_of, signature}
-use Rattle.symbol_table.specs.declared.table.Symbol.{Symbol as HeldSymbol}
 use Rattle.symbol_table.specs.declared.table.SymbolTable.{SymbolTable}
 
-pub signature_long : (t : SymbolTable) → length (signature t) ≡ length t.symbols.items
-signature_long t = simp length-map
+pub up_to_long : {X : Type 0} (n : ℕ) (f : ℕ → X) → length (up_to n f) ≡ n
+up_to_long zero f = refl
+up_to_long (suc n) f = length-append (up_to n f) (f n ∷ []) ∙ omega (arith, up_to_long n f)
 
-arities_small : (ss : List HeldSymbol) (k : ℕ) → arity_at (map symbol_of ss) k ≤ 8
-arities_small [] k = omega arith
-arities_small (s ∷ ss) zero = s.small
-arities_small (s ∷ ss) (suc k) = arities_small ss k
+pub up_to_at : {X : Type 0} (n : ℕ) (f : ℕ → X) (k : ℕ) (d : X) → k < n → get_or (up_to n f) k d ≡ f k
+up_to_at zero f k d lt = absurd (omega arith)
+up_to_at (suc n) f k d lt =
+    elim (cases_eq k n) [
+      | inl q ↦ get_or_push (up_to n f) (f n) d k (up_to_long n f ∙ sym q) ∙ ap f (sym q)
+      | inr ne ↦ get_or_append_left (up_to n f) (f n ∷ []) d k (omega (arith, up_to_long n f)) ∙ up_to_at n f k d (omega arith)
+    ]
 
-pub signature_small : (t : SymbolTable) (k : ℕ) → arity_at (signature t) k ≤ 8
-signature_small t k = arities_small t.symbols.items k
+pub up_to_past : {X : Type 0} (n : ℕ) (f : ℕ → X) (k : ℕ) (d : X) → n ≤ k → get_or (up_to n f) k d ≡ d
+up_to_past n f k d le = get_or_past (up_to n f) k d (omega (arith, up_to_long n f))
 
--- a symbol by its name and arity
-module _ (f : Name) (n : ℕ) where
-  number_at : (ss : List HeldSymbol) → number_in (map symbol_of ss) f n ≡ position_or_len (λ s. is_symbol (symbol_of s) f n) ss
-  number_at = is_position_or_len (λ ss. number_in (map symbol_of ss) f n) (λ s. is_symbol (symbol_of s) f n) refl
-      (λ s ss. (let e : suc (number_in (map symbol_of ss) f n) ≡ 1 + number_in (map symbol_of ss) f n = omega arith in ap (cond (is_symbol (symbol_of s) f n) 0) e))
+-- the arities of the first n symbols
+pub arities_up_to : (t : SymbolTable) (n : ℕ) → n ≤ length t.arities → map (λ s. s.arity) (up_to n (symbol_in t)) ≡ take n t.arities
+arities_up_to t zero h = refl
+arities_up_to t (suc n) h =
+    map-append (λ s. s.arity) (up_to n (symbol_in t)) (symbol_in t n ∷ [])
+    ∙ ap (λ l. l ++ get_or t.arities n 0 ∷ []) (arities_up_to t n (omega arith))
+    ∙ sym (take_more t.arities n 0 (omega arith))
+    ∙ ap (λ k. take k t.arities) (let z : n + 1 ≡ suc n = omega arith in z)
 
-  pub found_at : (ss : List HeldSymbol) → position (λ s. is_symbol (symbol_of s) f n) ss ≡ found (map symbol_of ss) f n
-  found_at ss = simp (length-map, number_at ss)
+pub signature_long : (t : SymbolTable) → length (signature t) ≡ t.len
+signature_long t = up_to_long t.len (symbol_in t)
+
+pub signature_small : (t : SymbolTable) (f : ℕ) → arity_at (signature t) f ≤ 8
+signature_small t f =
+    elim (cases_lt f t.len) [
+      | inl lt ↦ omega (arith, ap (λ s. s.arity) (up_to_at t.len (symbol_in t) f (record { name = []; arity = 0 }) lt), t.small f)
+      | inr ge ↦ omega (arith, ap (λ s. s.arity) (up_to_past t.len (symbol_in t) f (record { name = []; arity = 0 }) ge))
+    ]

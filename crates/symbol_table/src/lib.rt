@@ -2,6 +2,7 @@
 #![tactic(auto)]
 
 mod lookup;
+mod names;
 mod noting;
 mod symbol;
 mod table;

@@ -1,28 +1,33 @@
 // Symbols by their numbers, and numbers by their symbols.
 ghost use Rattle.std.specs.Prelude.{◌≡◌, ◌<◌, ◌≤◌, [], ◌∷◌, ◌++◌, length, take, OnOk, OnErr};
-ghost use Rattle.std.specs.List.{position};
 ghost use Rattle.symbol_table.specs.Symbols.{name_at, arity_at, arities_of};
 ghost use Rattle.symbol_table.specs.Numbers.{is_symbol, found, note_symbol};
-ghost use Rattle.symbol_table.specs.Tables.{symbol_of, signature};
+ghost use Rattle.symbol_table.specs.Tables.{symbol_in, signature};
 
-use crate::table::{SYMBOL_LIMIT, Symbol, SymbolTable};
-use arrayvec::{ArrayVec, CapacityError};
+use crate::names::write_name;
+use crate::table::{BYTES, SYMBOL_LIMIT, SymbolTable};
+use arrayvec::CapacityError;
+use lines::NAME_LIMIT;
 
 impl SymbolTable {
     pub fn new() -> SymbolTable
         ensures { signature result ≡ [] }
     {
         SymbolTable {
-            symbols: ArrayVec::new(),
+            bytes: [0; BYTES],
+            lens: [0; SYMBOL_LIMIT],
+            arities: [0; SYMBOL_LIMIT],
+            len: 0,
         }
     }
 
     // How many symbols there are.
+    #[tactic(auto, using(crate::proofs::SymbolLaws::signature_long))]
     pub fn len(&self) -> usize
         ensures value { result ≡ length (signature self.now) }
         ensures few { result ≤ 256 }
     {
-        self.symbols.len()
+        self.len
     }
 
     // The arity of the symbol with this number, or 0 where there is none: it cannot fail.
@@ -30,40 +35,58 @@ impl SymbolTable {
         ensures value { result ≡ arity_at (signature self.now) symbol }
         ensures small { result ≤ 8 }
     {
-        self.symbols.get(symbol as usize).map_or(0, |s| s.arity())
+        let k = symbol as usize;
+        if k < self.len { self.arities[k] } else { 0 }
     }
 
     // The arities in the order of the numbers.
-    pub fn arities(&self) -> ArrayVec<u8, SYMBOL_LIMIT>
-        ensures { result.items ≡ arities_of (signature self.now) }
+    pub fn arities(&self) -> &[u8]
+        ensures { result.now ≡ arities_of (signature self.now) }
     {
-        let mut arities = ArrayVec::new();
-        for symbol in self.symbols.as_slice() {
-            arities.push(symbol.arity());
-        }
-        arities
+        &self.arities[0..self.len]
     }
 
     // The name of the symbol with this number, or no bytes where there is none: it cannot fail.
     pub fn name(&self, symbol: u16) -> &[u8]
         ensures { result.now ≡ name_at (signature self.now) symbol }
     {
-        self.symbols.get(symbol as usize).map_or(&[], |s| s.name())
+        let k = symbol as usize;
+        if k >= self.len {
+            return &[];
+        }
+        let from = NAME_LIMIT * k;
+        let end = from + self.lens[k] as usize;
+        &self.bytes[from..end]
     }
 
-    // The number of the symbol with this name and arity.
+    // The bytes of all names, each from 31 times its number on.
+    pub fn bytes(&self) -> &[u8]
+        ensures { result.now ≡ self.now.bytes }
+    {
+        &self.bytes[..]
+    }
+
+    #[tactic(auto, using(crate::proofs::NumberLaws::same_slices))]
+    fn is_at(&self, k: usize, name: &[u8], arity: u8) -> bool
+        requires { k < self.now.len }
+        ensures { result ≡ is_symbol (symbol_in self.now k) name.now arity }
+    {
+        let from = NAME_LIMIT * k;
+        let end = from + self.lens[k] as usize;
+        let held = &self.bytes[from..end];
+        held == name && self.arities[k] == arity
+    }
+
+    // The number of the symbol with this name and arity. From the front: no map has fixed memory.
     pub fn find(&self, name: &[u8], arity: u8) -> Option<u16>
         ensures { result ≡ found (signature self.now) name.now arity }
     {
-        let k = self.position(name, arity)?;
-        Some(k as u16)
-    }
-
-    // The same, as an index. From the front: no map has fixed memory.
-    fn position(&self, name: &[u8], arity: u8) -> Option<usize>
-        ensures { result ≡ position (λ s. is_symbol (symbol_of s) name.now arity) self.now.symbols.items }
-    {
-        self.symbols.iter().position(|s| s.is(name, arity))
+        for k in 0..self.len {
+            if self.is_at(k, name, arity) {
+                return Some(k as u16);
+            }
+        }
+        None
     }
 
     // Adds a symbol at the end. By name and arity, as all that asks for symbols: callers have a part of a line, of which a `Symbol` is a copy.
@@ -73,7 +96,11 @@ impl SymbolTable {
         requires small { arity ≤ 8 }
         ensures { signature self.new ≡ signature self.old ++ record { name = name.entry.now; arity = arity } ∷ [] }
     {
-        self.symbols.push(Symbol::new(name, arity));
+        let k = self.len;
+        write_name(&mut self.bytes, NAME_LIMIT * k, name);
+        self.lens[k] = name.len() as u8;
+        self.arities[k] = arity;
+        self.len = k + 1;
     }
 
     // Adds a symbol that is not there yet; where it finds no room, nothing is added.
@@ -86,7 +113,7 @@ impl SymbolTable {
         if self.find(name, arity).is_some() {
             return Ok(());
         }
-        if self.symbols.is_full() {
+        if self.len == SYMBOL_LIMIT {
             return Err(CapacityError::new(()));
         }
         self.add(name, arity);
@@ -97,6 +124,8 @@ impl SymbolTable {
     pub fn truncate(&mut self, len: usize)
         ensures { signature self.new ≡ take len (signature self.old) }
     {
-        self.symbols.truncate(len);
+        if len < self.len {
+            self.len = len;
+        }
     }
 }

@@ -1,6 +1,5 @@
 // Symbols, one by one.
 ghost use Rattle.std.specs.Prelude.{◌≡◌, ◌≤◌, [], length};
-ghost use Rattle.symbol_table.specs.Numbers.{is_symbol};
 ghost use Rattle.symbol_table.specs.Tables.{symbol_of};
 
 use crate::table::Symbol;
@@ -31,17 +30,9 @@ impl Symbol {
     {
         self.arity
     }
-
-    // Whether it has this name and arity.
-    #[tactic(auto, using(crate::proofs::NumberLaws::same_slices))]
-    pub(crate) fn is(&self, name: &[u8], arity: u8) -> bool
-        ensures { result ≡ is_symbol (symbol_of self.now) name.now arity }
-    {
-        self.name() == name && self.arity == arity
-    }
 }
 
-// What stands in a table's unused places. No derive: the law is of the symbol that it stands for, and not of its fields.
+// What stands for a symbol where there is none. No derive: the law is of the symbol that it stands for, and not of its fields.
 impl Default for Symbol {
     ghost is_default = { λ s. symbol_of s ≡ record { name = []; arity = 0 } };
 

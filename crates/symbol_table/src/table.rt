@@ -1,11 +1,14 @@
 // The table of symbols.
-ghost use Rattle.std.specs.Prelude.{◌≤◌, length};
+ghost use Rattle.std.specs.Prelude.{ℕ, ◌≤◌, length, slice_index};
 
 use arrayvec::ArrayVec;
 use lines::NAME_LIMIT;
 
 // The symbols of a table, at most.
 pub const SYMBOL_LIMIT: usize = 256;
+
+// Their names' bytes.
+pub(crate) const BYTES: usize = SYMBOL_LIMIT * NAME_LIMIT;
 
 // A name with its arity.
 #[derive(Drop)]
@@ -16,9 +19,14 @@ pub struct Symbol {
     ghost small: { arity ≤ 8 },
 }
 
-// Symbols, in order of their first occurrence. It has no `Model`, since that would hide from callers' proofs that they are few and their arities small.
+// Names with their arities, in order of their first occurrence. Each name has 31 bytes of its own. No vector of `Symbol`s: names and arities are lent as one area each, and a new table is zeros.
 #[derive(Drop)]
 pub struct SymbolTable {
-    pub(crate) symbols: ArrayVec<Symbol, SYMBOL_LIMIT>,
-    ghost few: { length symbols.items ≤ 256 },
+    pub(crate) bytes: [u8; BYTES],
+    pub(crate) lens: [u8; SYMBOL_LIMIT],
+    pub(crate) arities: [u8; SYMBOL_LIMIT],
+    pub(crate) len: usize,
+    ghost few: { len ≤ 256 },
+    ghost short: { (k : ℕ) → slice_index lens k ≤ 31 },
+    ghost small: { (k : ℕ) → slice_index arities k ≤ 8 },
 }
