@@ -66,6 +66,7 @@ impl SymbolTable {
         &self.bytes[..]
     }
 
+    // Whether the symbol with number `k` has this name and arity.
     #[tactic(auto, using(crate::proofs::NumberLaws::same_slices))]
     fn is_at(&self, k: usize, name: &[u8], arity: u8) -> bool
         requires { k < self.now.len }
@@ -77,7 +78,7 @@ impl SymbolTable {
         held == name && self.arities[k] == arity
     }
 
-    // The number of the symbol with this name and arity. From the front: no map has fixed memory.
+    // The number of the symbol with this name and arity. From the front, since no map has fixed memory, and by numbers, since each name has 31 bytes of its own.
     pub fn find(&self, name: &[u8], arity: u8) -> Option<u16>
         ensures { result ≡ found (signature self.now) name.now arity }
     {
@@ -120,12 +121,11 @@ impl SymbolTable {
         Ok(())
     }
 
-    // Takes the symbols from number `len` on away.
+    // Takes the symbols from number `len` on away, if there are any.
     pub fn truncate(&mut self, len: usize)
         ensures { signature self.new ≡ take len (signature self.old) }
     {
-        if len < self.len {
-            self.len = len;
-        }
+        let len = len.min(self.len);
+        self.len = len;
     }
 }

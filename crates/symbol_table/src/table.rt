@@ -7,7 +7,7 @@ use lines::NAME_LIMIT;
 // The symbols of a table, at most.
 pub const SYMBOL_LIMIT: usize = 256;
 
-// Their names' bytes.
+// The bytes of their names, 31 for each.
 pub(crate) const BYTES: usize = SYMBOL_LIMIT * NAME_LIMIT;
 
 // A name with its arity.
@@ -19,7 +19,7 @@ pub struct Symbol {
     ghost small: { arity ≤ 8 },
 }
 
-// Names with their arities, in order of their first occurrence. Each name has 31 bytes of its own. No vector of `Symbol`s: names and arities are lent as one area each, and a new table is zeros.
+// Names with their arities, in order of their first occurrence. Each name has 31 bytes of its own. No vector of `Symbol`s: names and arities are lent as one area each, a new table is zeros, and taking symbols away changes one number.
 #[derive(Drop)]
 pub struct SymbolTable {
     pub(crate) bytes: [u8; BYTES],
