@@ -69,7 +69,7 @@ module _ (len s : ℕ) (old new : ℕ → ℕ) (same : (i : ℕ) → i < len →
           (λ (ne : i ≡ b → ⊥). subst (Least (len + 1) new (old i) (i + 1)) (sym (others i lt ne)) (later i lt ne (next i) (steps i lt)))
           (cases_eq i b))
 
-abbrev unlinked : Link
+abbrev pub unlinked : Link
 unlinked = record { row = blank; next = None }
 
 abbrev pub last_link : Row → Link
@@ -127,7 +127,7 @@ module _ (links : List Link) (ends : List (Option Ends)) (r : Row) (long : lengt
     abbrev linked : List Link
     linked = set links e.last (record (link_at links e.last) { next = Some len })
 
-    last_is : (e.last < len) × (symbol_at links e.last ≡ r.symbol) × Least len (symbol_at links) r.symbol (e.last + 1) None
+    pub last_is : (e.last < len) × (symbol_at links e.last ≡ r.symbol) × Least len (symbol_at links) r.symbol (e.last + 1) None
     last_is = (was (Some e) some).1
 
     linked_long : length linked ≡ len

@@ -1,62 +1,70 @@
 -- What a note writes is a row more.
-use Rattle.std.proofs.Common.{◌≡◌, ℕ, ◌<◌, List, [], ◌∷◌, ◌++◌, map, length, get_or, take, drop, set, Some, None, Option, sym, refl, ap, ◌∙◌, subst, length-set, arith}
+use Rattle.std.proofs.Common.{◌≡◌, ℕ, ◌+◌, ◌<◌, List, [], ◌∷◌, ◌++◌, map, length, get_or, take, set, Some, None, Option, sym, refl, ap, ◌∙◌, subst, length-set, arith}
 use mathlib.Core.Logic.{∥∥₁_elim, ∥∥₁_prop}
-use Rattle.std.specs.List.{refill}
-use Rattle.std.proofs.Math.Seq.{take-append_seam, map-set_same}
-use Rattle.std.proofs.lemmas.List.{map-append, length-map}
+use denote.Struct.Props.{props}
+use Rattle.std.proofs.Math.Seq.{take-set-lt, map-set_same}
+use Rattle.std.proofs.lemmas.List.{map-append, length-map, length-take-le, get_or-take, take_more_set}
 use Rattle.std.proofs.lemmas.Bool.{cond-true, lt-ltb}
 use Rattle.choosers.specs.declared.row.Row.{Row}
 use Rattle.choosers.specs.declared.chains.Link.{Link}
 use Rattle.choosers.specs.declared.chains.Ends.{Ends}
 use Rattle.choosers.specs.Chained.{link_at, Chained}
-use Rattle.choosers.specs.Rows.{blank, noted}
-use Rattle.choosers.proofs.ChainLaws.{last_link, chained_first, chained_linked}
-
--- a slice as long as what it was lent from
-refilled : (xs ws : List Link) → length ws ≡ length xs → refill (length xs) xs ws ≡ ws
-refilled xs ws e = ap (λ n. take n (ws ++ drop (length ws) xs)) (sym e) ∙ take-append_seam ws (drop (length ws) xs)
-
-abbrev linked : List Link → ℕ → ℕ → List Link
-linked xs b n = set xs b (record { row = (link_at xs b).row; next = Some n })
-
--- the links that a note leaves where row b was the last of the symbol
-link_written : (xs ds new : List Link) (r : Row) (b n : ℕ) → ds ≡ xs → n ≡ length xs → new ≡ refill (length xs) xs (linked ds b n) ++ last_link r ∷ [] → new ≡ linked xs b (length xs) ++ last_link r ∷ []
-link_written xs ds new r b n d e h =
-    h ∙ ap (λ (ys : List Link). refill (length xs) xs (linked ys b n) ++ last_link r ∷ []) d
-    ∙ ap (λ (m : ℕ). refill (length xs) xs (linked xs b m) ++ last_link r ∷ []) e
-    ∙ ap (λ (ys : List Link). ys ++ last_link r ∷ []) (refilled xs (linked xs b (length xs)) (length-set xs b (record { row = (link_at xs b).row; next = Some (length xs) })))
-
-module _ (xs : List Link) (ends : List (Option Ends)) (r : Row) (new : List Link) (n first : ℕ) (long : length ends ≡ 256) (small : r.symbol < 256) (at : n ≡ length xs) (t : ∥ Chained xs ends ∥₁) where
-  pub chain_first : get_or ends r.symbol None ≡ None → first ≡ n → new ≡ xs ++ last_link r ∷ [] → ∥ Chained new (set ends r.symbol (Some (record { first = first; last = n }))) ∥₁
-  chain_first none f h =
-      ∥∥₁_elim t ∥∥₁_prop (λ c.
-      let d = chained_first xs ends r long small c none in
-      ∣ subst (λ (ys : List Link). Chained ys (set ends r.symbol (Some (record { first = first; last = n })))) (sym h)
-      (subst (λ k. Chained (xs ++ last_link r ∷ []) (set ends r.symbol (Some (record { first = k; last = n })))) (sym (f ∙ at))
-      (subst (λ k. Chained (xs ++ last_link r ∷ []) (set ends r.symbol (Some (record { first = length xs; last = k })))) (sym at) d)) ∣₁)
-
-  pub chain_linked : (e : Ends) (ds : List Link) → get_or ends r.symbol None ≡ Some e → first ≡ e.first → ds ≡ xs → new ≡ refill (length xs) xs (linked ds e.last n) ++ last_link r ∷ []
-      → ∥ Chained new (set ends r.symbol (Some (record { first = first; last = n }))) ∥₁
-  chain_linked e ds some f lent h =
-      ∥∥₁_elim t ∥∥₁_prop (λ c.
-      let d = chained_linked xs ends r long small c e some in
-      ∣ subst (λ (ys : List Link). Chained ys (set ends r.symbol (Some (record { first = first; last = n })))) (sym (link_written xs ds new r e.last n lent at h))
-      (subst (λ k. Chained (linked xs e.last (length xs) ++ last_link r ∷ []) (set ends r.symbol (Some (record { first = k; last = n })))) (sym f)
-      (subst (λ k. Chained (linked xs e.last (length xs) ++ last_link r ∷ []) (set ends r.symbol (Some (record { first = e.first; last = k })))) (sym at) d)) ∣₁)
+use Rattle.choosers.specs.Rows.{noted}
+use Rattle.choosers.proofs.ChainLaws.{unlinked, last_link, last_is, chained_first, chained_linked}
 
 abbrev pub rows : List Link → List Row
 rows xs = map (λ (l : Link). l.row) xs
 
-module _ (xs : List Link) (r : Row) (room : length xs < 256) where
-  pub rows_more : rows (xs ++ last_link r ∷ []) ≡ noted (rows xs) r
-  rows_more =
-      map-append (λ (l : Link). l.row) xs (last_link r ∷ [])
-      ∙ sym (cond-true _ _ _ (lt-ltb (length (rows xs)) 256 (omega (arith, length-map xs (λ (l : Link). l.row)))))
+-- the first n links are those told
+module _ (xs : List Link) (ends : List (Option Ends)) (r : Row) (n : ℕ) (room : n < length xs) where
+  told : length (take n xs) ≡ n
+  told = length-take-le n xs (omega arith)
 
-  pub rows_linked : (ds new : List Link) (b n : ℕ) → ds ≡ xs → n ≡ length xs → new ≡ refill (length xs) xs (linked ds b n) ++ last_link r ∷ [] → rows new ≡ noted (rows xs) r
-  rows_linked ds new b n d e h =
-      ap rows (link_written xs ds new r b n d e h)
-      ∙ map-append (λ (l : Link). l.row) (linked xs b (length xs)) (last_link r ∷ [])
-      ∙ ap (λ (ys : List Row). ys ++ r ∷ []) (map-set_same (λ (l : Link). l.row) xs b (record { row = (link_at xs b).row; next = Some (length xs) }) (record { row = blank; next = None }) refl)
-      ∙ sym (map-append (λ (l : Link). l.row) xs (last_link r ∷ []))
-      ∙ rows_more
+  -- one link more
+  abbrev pub longer : List Link → List Link
+  longer ys = take (n + 1) (set ys n (last_link r))
+
+  abbrev pub linked : ℕ → List Link
+  linked b = set xs b (record { row = (link_at xs b).row; next = Some n })
+
+  one_more : longer xs ≡ take n xs ++ last_link r ∷ []
+  one_more = take_more_set xs n (last_link r) room
+
+  front : (b : ℕ) → b < n → take n (linked b) ≡ set (take n xs) b (record { row = (link_at (take n xs) b).row; next = Some n })
+  front b lt = take-set-lt n xs b (record { row = (link_at xs b).row; next = Some n }) lt ∙ ap (λ (l : Link). set (take n xs) b (record { row = l.row; next = Some n })) (sym (get_or-take n xs b unlinked lt))
+
+  one_linked : (b : ℕ) → b < n → longer (linked b) ≡ set (take n xs) b (record { row = (link_at (take n xs) b).row; next = Some n }) ++ last_link r ∷ []
+  one_linked b lt =
+      take_more_set (linked b) n (last_link r) (omega (arith, length-set xs b (record { row = (link_at xs b).row; next = Some n })))
+      ∙ ap (λ (ys : List Link). ys ++ last_link r ∷ []) (front b lt)
+
+  noted_more : n < 256 → rows (take n xs) ++ r ∷ [] ≡ noted (rows (take n xs)) r
+  noted_more few = sym (cond-true _ _ _ (lt-ltb (length (rows (take n xs))) 256 (omega (arith, told, length-map (take n xs) (λ (l : Link). l.row)))))
+
+  pub rows_more : n < 256 → rows (longer xs) ≡ noted (rows (take n xs)) r
+  rows_more few = ap rows one_more ∙ map-append (λ (l : Link). l.row) (take n xs) (last_link r ∷ []) ∙ noted_more few
+
+  module _ (long : length ends ≡ 256) (small : r.symbol < 256) (t : ∥ Chained (take n xs) ends ∥₁) where
+    pub chain_first : get_or ends r.symbol None ≡ None → ∥ Chained (longer xs) (set ends r.symbol (Some (record { first = n; last = n }))) ∥₁
+    chain_first none =
+        ∥∥₁_elim t ∥∥₁_prop (λ c.
+        ∣ subst (λ (ys : List Link). Chained ys (set ends r.symbol (Some (record { first = n; last = n })))) (sym one_more)
+        (subst (λ k. Chained (take n xs ++ last_link r ∷ []) (set ends r.symbol (Some (record { first = k; last = k })))) told (chained_first (take n xs) ends r long small c none)) ∣₁)
+
+    module _ (e : Ends) (some : get_or ends r.symbol None ≡ Some e) where
+      before : e.last < n
+      before = ∥∥₁_elim t (hlevel props) (λ c. subst (λ k. e.last < k) told (last_is (take n xs) ends r long small c e some).0)
+
+      pub chain_linked : ∥ Chained (longer (linked e.last)) (set ends r.symbol (Some (record { first = e.first; last = n }))) ∥₁
+      chain_linked =
+          ∥∥₁_elim t ∥∥₁_prop (λ c.
+          ∣ subst (λ (ys : List Link). Chained ys (set ends r.symbol (Some (record { first = e.first; last = n })))) (sym (one_linked e.last before))
+          (subst (λ k. Chained (set (take n xs) e.last (record { row = (link_at (take n xs) e.last).row; next = Some k }) ++ last_link r ∷ []) (set ends r.symbol (Some (record { first = e.first; last = k })))) told
+          (chained_linked (take n xs) ends r long small c e some)) ∣₁)
+
+      pub rows_linked : n < 256 → rows (longer (linked e.last)) ≡ noted (rows (take n xs)) r
+      rows_linked few =
+          ap rows (one_linked e.last before)
+          ∙ map-append (λ (l : Link). l.row) (set (take n xs) e.last (record { row = (link_at (take n xs) e.last).row; next = Some n })) (last_link r ∷ [])
+          ∙ ap (λ (ys : List Row). ys ++ r ∷ []) (map-set_same (λ (l : Link). l.row) (take n xs) e.last (record { row = (link_at (take n xs) e.last).row; next = Some n }) unlinked refl)
+          ∙ noted_more few

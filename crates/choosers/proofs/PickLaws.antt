@@ -1,20 +1,24 @@
 -- A walk along a chain.
-use Rattle.std.proofs.Common.{◌≡◌, ℕ, ◌+◌, ◌-◌, ◌<◌, ◌≤◌, List, map, length, get_or, Some, None, Option, sym, ap, ◌∙◌, subst, ⊎_elim, arith}
+use Rattle.std.proofs.Common.{◌≡◌, ℕ, ◌+◌, ◌-◌, ◌<◌, ◌≤◌, List, map, length, get_or, take, Some, None, Option, sym, ap, ◌∙◌, subst, ⊎_elim, arith}
 use mathlib.Core.Logic.{∥∥₁_elim}
 use denote.Struct.Props.{props}
-use Rattle.std.proofs.lemmas.List.{get_or-map, length-map}
+use Rattle.std.proofs.lemmas.List.{get_or-map, get_or-take, length-map, length-take}
 use Rattle.std.proofs.lemmas.Bool.{cases_lt, cases_eq}
 use Rattle.choosers.specs.declared.row.Row.{Row}
 use Rattle.choosers.specs.declared.chains.Link.{Link}
 use Rattle.choosers.specs.declared.chains.Ends.{Ends}
 use Rattle.choosers.specs.Chained.{link_at, symbol_at, key_at, Least, Spans, Chained, Starts}
-use Rattle.choosers.specs.Picks.{Passed, Finds}
+use Rattle.choosers.specs.Picks.{Passed, Picks, Finds}
 use Rattle.choosers.specs.Rows.{blank, Clash, row_of}
 
 -- the rows from `after` on that stand before `at` are passed, and `at` has the symbol; all are, where there is no `at`
 abbrev pub Walked : List Link → ℕ → ℕ → ℕ → Option ℕ → Type 0
 Walked links s key after None = (i : ℕ) → (after ≤ i) × (i < length links) × (symbol_at links i ≡ s) → Clash key (key_at links i)
 Walked links s key after (Some n) = (n < length links) × (symbol_at links n ≡ s) × ((i : ℕ) → (after ≤ i) × (i < n) × (symbol_at links i ≡ s) → Clash key (key_at links i))
+
+-- a link of those told stands in the array at its place
+pub told_at : (links : List Link) (len n : ℕ) → n < length (take len links) → link_at (take len links) n ≡ link_at links n
+told_at links len n lt = get_or-take len links n (record { row = blank; next = None }) (omega (arith, lt, length-take len links))
 
 -- how many rows may still be walked to
 abbrev pub ahead : ℕ → Option ℕ → ℕ
@@ -92,6 +96,20 @@ module _ (links : List Link) (ends : List (Option Ends)) (s key after n : ℕ) (
       less : (o : Option ℕ) → Least (length links) (symbol_at links) (symbol_at links n) (n + 1) o → ahead (length links) o < length links - n
       less None h = let a : n < length links = w.0 in omega arith
       less (Some m) h = let a : n < length links = w.0 in let b : n + 1 ≤ m = h.0 in omega arith
+
+-- what is found is a pick
+pub found_picks : (rows : List Row) (s key after : ℕ) (r : Option ℕ) → Finds rows s key after r → Picks rows s key after r
+found_picks rows s key after None f = f
+found_picks rows s key after (Some m) f = f.0
+
+-- with a key that clashes with none, it is one for every key
+any_passed : (rows : List Row) (s key after m : ℕ) → Passed rows s 0 after m → Passed rows s key after m
+any_passed rows s key after m p i low lt e = let c = (p i low lt e).0 in absurd (omega arith)
+
+pub next_picks : (rows : List Row) (s key after : ℕ) (r : Option ℕ) → Finds rows s 0 after r → Picks rows s key after r
+next_picks rows s key after None f = any_passed rows s key after (length rows + 1) f
+next_picks rows s key after (Some m) f =
+    record { above = f.0.above; within = f.0.within; has = f.0.has; passed = any_passed rows s key after m f.0.passed }
 
 module _ (links : List Link) (s key after : ℕ) where
   abbrev rows : List Row

@@ -1,9 +1,8 @@
 // Rows in fixed memory, in a chain for each symbol.
-ghost use Rattle.std.specs.Prelude.{◌≤◌, length};
+ghost use Rattle.std.specs.Prelude.{◌≤◌, take};
 ghost use Rattle.choosers.specs.Chained.{Chained};
 
 use crate::row::Row;
-use arrayvec::ArrayVec;
 
 // The most rows: as many as a deck has clauses, of which this crate knows nothing.
 pub(crate) const ROW_LIMIT: usize = 256;
@@ -28,9 +27,11 @@ pub struct Ends {
 // No Model: a `Chooser` has its rows as a ghost.
 #[derive(Drop)]
 pub struct Chains {
-    pub(crate) links: ArrayVec<Link, ROW_LIMIT>,
+    // those told are the first `len`; an ArrayVec writes over each where it is cleared
+    pub(crate) links: [Link; ROW_LIMIT],
+    pub(crate) len: usize,
     // of each symbol that has a row
     pub(crate) ends: [Option<Ends>; SYMBOL_LIMIT],
-    ghost few: { length links.items ≤ 256 },
-    ghost chained: { ∥ Chained links.items ends ∥₁ },
+    ghost few: { len ≤ 256 },
+    ghost chained: { ∥ Chained (take len links) ends ∥₁ },
 }
