@@ -1,5 +1,5 @@
 // Terms put into a sink, out of the cells that stand for them.
-ghost use Rattle.std.specs.Prelude.{◌≡◌, ℕ, ◌<◌, List, length, is_ok, IfOk, OnOk, MatchBool, nat_eq};
+ghost use Rattle.std.specs.Prelude.{◌≡◌, ℕ, ◌<◌, List, [], length, is_ok, IfOk, OnOk, MatchBool, nat_eq};
 ghost use Rattle.arrayvec.specs.ArrayVec.{array_vec_len};
 ghost use Rattle.heap.specs.Heaps.{Rooted, cell};
 ghost use Rattle.heap.specs.Limits.{cell_limit};
@@ -18,6 +18,25 @@ use crate::sink::Sink;
 use crate::terms::Terms;
 use arrayvec::{ArrayVec, CapacityError};
 use heap::{CELL_LIMIT, Cell, root};
+
+// What one pass over the terms works with: it is large, so it is made once and lent to each term.
+#[derive(Drop)]
+pub(crate) struct Scratch {
+    pub(crate) numbering: Numbering,
+    // the frames of the term that is being put
+    stack: ArrayVec<Frame, CELL_LIMIT>,
+}
+
+impl Scratch {
+    pub(crate) fn new() -> Scratch
+        ensures { Numbered [] result.numbering.numbers result.numbering.seen }
+    {
+        Scratch {
+            numbering: Numbering::new(),
+            stack: ArrayVec::new(),
+        }
+    }
+}
 
 // Pushes a frame, unless it is empty.
 fn push_frame(stack: &mut ArrayVec<Frame, CELL_LIMIT>, frame: Frame)
@@ -71,19 +90,19 @@ impl<'a, N: Names> Terms<'a, N> {
     pub(crate) fn put_value<S: Sink>(
         &self,
         sink: &mut S,
-        numbering: &mut Numbering,
+        scratch: &mut Scratch,
         start: u16,
     ) -> Result<(), CapacityError>
         requires { start < length self.now.cells.now }
-        ensures { (us : List ℕ) (ρ : Valuation) → Numbered us numbering.old.numbers numbering.old.seen → Stands (N.Names.naming self.now.names.now) self.now.cells.now ρ → Puts S S.room S.holds (is_ok result) sink.old sink.new (written (ρ start) us) × MatchBool (is_ok result) (Numbered (through (note nat_eq) (ρ start) us) numbering.new.numbers numbering.new.seen) (Unit {0}) }
+        ensures { (us : List ℕ) (ρ : Valuation) → Numbered us scratch.old.numbering.numbers scratch.old.numbering.seen → Stands (N.Names.naming self.now.names.now) self.now.cells.now ρ → Puts S S.room S.holds (is_ok result) sink.old sink.new (written (ρ start) us) × MatchBool (is_ok result) (Numbered (through (note nat_eq) (ρ start) us) scratch.new.numbering.numbers scratch.new.numbering.seen) (Unit {0}) }
     {
-        let mut stack = ArrayVec::<Frame, CELL_LIMIT>::new();
+        scratch.stack.clear();
         let mut at = start;
         loop {
             let place = root(self.cells, at);
-            let frame = self.put_field(sink, numbering, place)?;
-            push_frame(&mut stack, frame);
-            let Some(top) = stack.pop() else {
+            let frame = self.put_field(sink, &mut scratch.numbering, place)?;
+            push_frame(&mut scratch.stack, frame);
+            let Some(top) = scratch.stack.pop() else {
                 return Ok(());
             };
             let rest = Frame {
@@ -91,7 +110,7 @@ impl<'a, N: Names> Terms<'a, N> {
                 next: top.next + 1,
                 left: top.left - 1,
             };
-            push_frame(&mut stack, rest);
+            push_frame(&mut scratch.stack, rest);
             at = top.next;
         }
     }

@@ -15,9 +15,9 @@ ghost use Rattle.answers.specs.Takes.{Puts};
 use crate::buffer::{Count, Write};
 use crate::bytes::{put_bytes, put_decimal};
 use crate::names::Names;
-use crate::numbering::Numbering;
 use crate::sink::Sink;
 use crate::terms::Terms;
+use crate::values::Scratch;
 use crate::variable::Variable;
 use arrayvec::CapacityError;
 use heap::Cell;
@@ -27,18 +27,18 @@ impl<'a, N: Names> Terms<'a, N> {
     fn put_variable<S: Sink>(
         &self,
         sink: &mut S,
-        numbering: &mut Numbering,
+        scratch: &mut Scratch,
         line: &[u8],
         variable: Variable,
     ) -> Result<(), CapacityError>
         requires { Inside line.now self.now.cells.now variable }
-        ensures { (us : List ℕ) (ρ : Valuation) → Numbered us numbering.old.numbers numbering.old.seen → Stands (N.Names.naming self.now.names.now) self.now.cells.now ρ → Puts S S.room S.holds (is_ok result) sink.old sink.new (told_one line.now ρ variable us) × MatchBool (is_ok result) (Numbered (through (note nat_eq) (ρ variable.cell) us) numbering.new.numbers numbering.new.seen) (Unit {0}) }
+        ensures { (us : List ℕ) (ρ : Valuation) → Numbered us scratch.old.numbering.numbers scratch.old.numbering.seen → Stands (N.Names.naming self.now.names.now) self.now.cells.now ρ → Puts S S.room S.holds (is_ok result) sink.old sink.new (told_one line.now ρ variable us) × MatchBool (is_ok result) (Numbered (through (note nat_eq) (ρ variable.cell) us) scratch.new.numbering.numbers scratch.new.numbering.seen) (Unit {0}) }
     {
         sink.put(b',')?;
         let start = variable.start as usize;
         let end = start + variable.len as usize;
         put_bytes(sink, &line[start..end])?;
-        self.put_value(sink, numbering, variable.cell)
+        self.put_value(sink, scratch, variable.cell)
     }
 
     // Puts all variables. Line and variables stay two parameters: a struct of both would be made for one call.
@@ -51,9 +51,9 @@ impl<'a, N: Names> Terms<'a, N> {
         requires { InsideAll line.now self.now.cells.now variables.now }
         ensures { (ρ : Valuation) → Stands (N.Names.naming self.now.names.now) self.now.cells.now ρ → Puts S S.room S.holds (is_ok result) sink.old sink.new (told line.now ρ variables.now []) }
     {
-        let mut numbering = Numbering::new();
+        let mut scratch = Scratch::new();
         for &v in variables {
-            self.put_variable(sink, &mut numbering, line, v)?;
+            self.put_variable(sink, &mut scratch, line, v)?;
         }
         Ok(())
     }

@@ -18,7 +18,7 @@ none_left (f ∷ fs) h = absurd (cc (h (omega arith)))
 
 pub loop-frame-init : goal.loop-frame-init
 loop-frame-init g c =
-    let empty : c.new-stack.result.items ≡ [] = c.new-stack.ensures in
+    let empty : c.clear.new.self.items ≡ [] = c.clear.ensures in
     record {
       within = c.requires;
       chain = λ ρ sol. subst (λ fs. Chain (λ i. size (ρ i)) (length c.args.self.now.cells.now) fs × Above (λ i. size (ρ i)) (size (ρ c.args.start)) fs) (sym empty) (tt, tt);
@@ -28,7 +28,7 @@ loop-frame-init g c =
 pub returns-in_err-frame : goal.returns-in_err-frame
 returns-in_err-frame g c =
     let H = c.args.self.now.cells.now in
-    let fs = c.loop-frame.stack.items in
+    let fs = c.loop-frame.scratch.stack.items in
     let at = c.loop-frame.at in
     let full = refused c.from_residual.result c.from_residual.ensures.0 in
     λ us ρ n st.
@@ -44,8 +44,8 @@ push_frame-requires g c =
     let names = g.N.Names.naming self.names.now in
     let H = self.cells.now in
     let f = c.in_ok-frame.frame in
-    let less = few names H self.sound self.closed c.loop-frame.at c.root-place.result c.root-place.ensures c.loop-frame.stack.items (added f c.loop-frame.stack.items) c.in_ok-frame.frame c.in_ok-frame.ensures.frame refl c.loop-frame.invariant.chain in
-    λ some. omega (arith, less, length_added f c.loop-frame.stack.items some, self.small)
+    let less = few names H self.sound self.closed c.loop-frame.at c.root-place.result c.root-place.ensures c.loop-frame.scratch.stack.items (added f c.loop-frame.scratch.stack.items) c.in_ok-frame.frame c.in_ok-frame.ensures.frame refl c.loop-frame.invariant.chain in
+    λ some. omega (arith, less, length_added f c.loop-frame.scratch.stack.items some, self.small)
 
 pub returns-in_default : goal.returns-in_default
 returns-in_default g c =
@@ -66,7 +66,7 @@ overflow_add-rest g c =
     let self = c.args.self.now in
     let names = g.N.Names.naming self.names.now in
     let H = self.cells.now in
-    let top = top_left names H self.sound self.closed c.loop-frame.at c.root-place.result c.root-place.ensures c.loop-frame.stack.items c.push_frame.new.stack.items c.in_ok-frame.frame c.in_ok-frame.ensures.frame c.push_frame.ensures c.loop-frame.invariant.chain c.pop.new.self.items c.in-Some.top c.in-Some.ensures.items in
+    let top = top_left names H self.sound self.closed c.loop-frame.at c.root-place.result c.root-place.ensures c.loop-frame.scratch.stack.items c.push_frame.new.stack.items c.in_ok-frame.frame c.in_ok-frame.ensures.frame c.push_frame.ensures c.loop-frame.invariant.chain c.pop.new.self.items c.in-Some.top c.in-Some.ensures.items in
     omega (arith, top.0, top.1, self.small)
 
 pub overflow_sub-rest : goal.overflow_sub-rest
@@ -74,14 +74,14 @@ overflow_sub-rest g c =
     let self = c.args.self.now in
     let names = g.N.Names.naming self.names.now in
     let H = self.cells.now in
-    (top_left names H self.sound self.closed c.loop-frame.at c.root-place.result c.root-place.ensures c.loop-frame.stack.items c.push_frame.new.stack.items c.in_ok-frame.frame c.in_ok-frame.ensures.frame c.push_frame.ensures c.loop-frame.invariant.chain c.pop.new.self.items c.in-Some.top c.in-Some.ensures.items).0
+    (top_left names H self.sound self.closed c.loop-frame.at c.root-place.result c.root-place.ensures c.loop-frame.scratch.stack.items c.push_frame.new.stack.items c.in_ok-frame.frame c.in_ok-frame.ensures.frame c.push_frame.ensures c.loop-frame.invariant.chain c.pop.new.self.items c.in-Some.top c.in-Some.ensures.items).0
 
 pub push_frame-requires-in-loop-frame : goal.push_frame-requires-in-loop-frame
 push_frame-requires-in-loop-frame g c =
     let self = c.args.self.now in
     let names = g.N.Names.naming self.names.now in
     let H = self.cells.now in
-    let less = few names H self.sound self.closed c.loop-frame.at c.root-place.result c.root-place.ensures c.loop-frame.stack.items c.push_frame.new.stack.items c.in_ok-frame.frame c.in_ok-frame.ensures.frame c.push_frame.ensures c.loop-frame.invariant.chain in
+    let less = few names H self.sound self.closed c.loop-frame.at c.root-place.result c.root-place.ensures c.loop-frame.scratch.stack.items c.push_frame.new.stack.items c.in_ok-frame.frame c.in_ok-frame.ensures.frame c.push_frame.ensures c.loop-frame.invariant.chain in
     λ some. omega (arith, less, c.in-Some.ensures.len, self.small)
 
 pub loop-frame-preserved : goal.loop-frame-preserved
@@ -93,9 +93,9 @@ loop-frame-preserved g c =
     let top = c.in-Some.top in
     let next = λ (ρ : Valuation) (sol : Sol names H ρ).
     chain_next (λ i. size (ρ i)) (length H) _ _ _ top c.in-Some.ensures.items c.push_frame-in-loop-frame.ensures
-    (chain_pushed names H c.loop-frame.at r c.root-place.ensures c.args.self.now.closed ρ sol c.loop-frame.stack.items _ c.in_ok-frame.frame c.in_ok-frame.ensures.frame c.push_frame.ensures (inv.chain ρ sol).0 (inv.chain ρ sol).1) in
+    (chain_pushed names H c.loop-frame.at r c.root-place.ensures c.args.self.now.closed ρ sol c.loop-frame.scratch.stack.items _ c.in_ok-frame.frame c.in_ok-frame.ensures.frame c.push_frame.ensures (inv.chain ρ sol).0 (inv.chain ρ sol).1) in
     let self = c.args.self.now in
-    let left = top_left names H self.sound self.closed c.loop-frame.at c.root-place.result c.root-place.ensures c.loop-frame.stack.items c.push_frame.new.stack.items c.in_ok-frame.frame c.in_ok-frame.ensures.frame c.push_frame.ensures c.loop-frame.invariant.chain c.pop.new.self.items c.in-Some.top c.in-Some.ensures.items in
+    let left = top_left names H self.sound self.closed c.loop-frame.at c.root-place.result c.root-place.ensures c.loop-frame.scratch.stack.items c.push_frame.new.stack.items c.in_ok-frame.frame c.in_ok-frame.ensures.frame c.push_frame.ensures c.loop-frame.invariant.chain c.pop.new.self.items c.in-Some.top c.in-Some.ensures.items in
     record {
       within = omega (arith, left.0, left.1);
       chain = λ ρ sol. ((next ρ sol).0, (next ρ sol).1);

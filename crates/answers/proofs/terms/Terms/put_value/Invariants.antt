@@ -12,9 +12,9 @@ invariant-loop-frame g l =
     record {
       within : l.at < length l.self.cells.now;
       chain : (ρ : Valuation) → Sol (g.N.Names.naming l.self.names.now) l.self.cells.now ρ
-          → Chain (λ i. size (ρ i)) (length l.self.cells.now) l.stack.items × Above (λ i. size (ρ i)) (size (ρ l.at)) l.stack.items;
-      moved : (us : List ℕ) → Numbered us l.initial.numbering.numbers l.initial.numbering.seen
-          → Moved (g.N.Names.naming l.self.names.now) l.self.cells.now l.initial.at us (Puts g.row.S.Denot g.S.Sink.room g.S.Sink.holds true l.initial.sink l.sink) l.numbering.numbers l.numbering.seen l.at l.stack.items;
+          → Chain (λ i. size (ρ i)) (length l.self.cells.now) l.scratch.stack.items × Above (λ i. size (ρ i)) (size (ρ l.at)) l.scratch.stack.items;
+      moved : (us : List ℕ) → Numbered us l.initial.scratch.numbering.numbers l.initial.scratch.numbering.seen
+          → Moved (g.N.Names.naming l.self.names.now) l.self.cells.now l.initial.at us (Puts g.row.S.Denot g.S.Sink.room g.S.Sink.holds true l.initial.sink l.sink) l.scratch.numbering.numbers l.scratch.numbering.seen l.at l.scratch.stack.items;
     }
 
 abbrev pub decreases-loop-frame : goal.decreases-loop-frame
