@@ -3,8 +3,8 @@
 // Arguments still to be written: `left` cells from `next` on, of the structure at `owner`.
 // `owner` is there for the proof alone: no two frames of a stack have one owner, so there are never more frames than cells.
 #[derive(Clone, Copy, Default)]
-pub(crate) struct Frame {
-    pub(crate) owner: u16,
-    pub(crate) next: u16,
-    pub(crate) left: u16,
+pub struct Frame {
+    pub owner: u16,
+    pub next: u16,
+    pub left: u16,
 }

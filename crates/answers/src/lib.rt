@@ -14,6 +14,7 @@ mod variable;
 mod writer;
 
 pub use buffer::{Count, Write};
+pub use frame::Frame;
 pub use names::Names;
 pub use numbering::Numbering;
 pub use sink::Sink;
