@@ -119,6 +119,11 @@ marked_set (None ∷ xs) (suc v) n h z = marked_set xs v n (omega arith) z
 marked_set (Some m ∷ xs) (suc v) n h z = omega (arith, marked_set xs v n (omega arith) z)
 
 -- a table with no numbers
+pub marked_none : (xs : List (Option ℕ)) → ((v : ℕ) → v < length xs → get_or xs v None ≡ None) → marked xs ≡ 0
+marked_none [] h = refl
+marked_none (None ∷ xs) h = marked_none xs (λ v l. h (suc v) (omega arith))
+marked_none (Some n ∷ xs) h = absurd (cc (h 0 (omega arith)))
+
 none_at : (n v : ℕ) → slice_index_or (replicate n None) v None ≡ given [] v
 none_at zero v = refl
 none_at (suc n) zero = refl
