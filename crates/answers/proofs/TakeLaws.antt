@@ -3,34 +3,36 @@ use Rattle.std.proofs.Common.{◌≡◌, ℕ, ◌+◌, ◌≤◌, Bool, true, fa
 use Rattle.std.proofs.lemmas.List.{append_assoc, append-nil, length-append}
 use Rattle.answers.specs.Takes.{Took, Puts}
 
-module _ {S : Type 0} {room : S → ℕ} {holds : S → S → List ℕ → Type 0} where
+module _ {S : Type 0} {room : S → List ℕ → ℕ} {holds : S → List ℕ → S → List ℕ → List ℕ → Type 0} where
   -- no bytes
-  pub puts_none : (t : S) → Puts S room holds true t t []
-  puts_none t = record { after = λ s bs h. subst (holds s t) (sym (append-nil bs)) h }
+  pub puts_none : (t : S) (q : List ℕ) → Puts S room holds true t q t q []
+  puts_none t q = record { after = λ s o bs h. subst (holds s o t q) (sym (append-nil bs)) h }
 
   -- bytes that were refused, with more after them
-  pub puts_stop : {r : Bool} {t t' : S} {xs all : List ℕ} (ys : List ℕ) → all ≡ xs ++ ys → r ≡ false → Puts S room holds false t t' xs → Puts S room holds r t t' all
-  puts_stop {t = t} {t' = t'} {xs = xs} {all = all} ys e f p = subst (λ b. Puts S room holds b t t' all) (sym f) (record {
-    after = λ s bs h.
-        let w : Took false (room s) (holds s t') (bs ++ xs) = p.after s bs h in
+  pub puts_stop : {r : Bool} {t t' : S} {q q' xs all : List ℕ} (ys : List ℕ) → all ≡ xs ++ ys → r ≡ false
+      → Puts S room holds false t q t' q' xs → Puts S room holds r t q t' q' all
+  puts_stop {t = t} {t' = t'} {q = q} {q' = q'} {xs = xs} {all = all} ys e f p = subst (λ b. Puts S room holds b t q t' q' all) (sym f) (record {
+    after = λ s o bs h.
+        let w : Took false (room s o) (holds s o t' q') (bs ++ xs) = p.after s o bs h in
         (omega (arith, w.0, ap length e, length-append xs ys, length-append bs xs, length-append bs all), w.1);
   })
 
   -- bytes that were taken, and what becomes of those after them
-  pub puts_then : {r : Bool} {t t' t'' : S} {xs all : List ℕ} (ys : List ℕ) → all ≡ xs ++ ys → Puts S room holds true t t' xs → Puts S room holds r t' t'' ys → Puts S room holds r t t'' all
-  puts_then {r = r} {t'' = t''} {xs = xs} ys e p n = record {
-    after = λ s bs h.
-        subst (Took r (room s) (holds s t'')) (append_assoc bs xs ys ∙ ap (λ z. bs ++ z) (sym e)) (n.after s (bs ++ xs) (p.after s bs h));
+  pub puts_then : {r : Bool} {t t' t'' : S} {q q' q'' xs all : List ℕ} (ys : List ℕ) → all ≡ xs ++ ys
+      → Puts S room holds true t q t' q' xs → Puts S room holds r t' q' t'' q'' ys → Puts S room holds r t q t'' q'' all
+  puts_then {r = r} {t'' = t''} {q'' = q''} {xs = xs} ys e p n = record {
+    after = λ s o bs h.
+        subst (Took r (room s o) (holds s o t'' q'')) (append_assoc bs xs ys ∙ ap (λ z. bs ++ z) (sym e)) (n.after s o (bs ++ xs) (p.after s o bs h));
   }
 
   -- the same bytes
-  pub puts_same : {r : Bool} {t t' : S} {xs ys : List ℕ} → xs ≡ ys → Puts S room holds r t t' xs → Puts S room holds r t t' ys
-  puts_same {r = r} {t = t} {t' = t'} e p = subst (Puts S room holds r t t') e p
+  pub puts_same : {r : Bool} {t t' : S} {q q' xs ys : List ℕ} → xs ≡ ys → Puts S room holds r t q t' q' xs → Puts S room holds r t q t' q' ys
+  puts_same {r = r} {t = t} {t' = t'} {q = q} {q' = q'} e p = subst (Puts S room holds r t q t' q') e p
 
   -- bytes that were taken lessen the room
-  pub puts_less : ((s : S) → holds s s []) → ((s t : S) (bs : List ℕ) → holds s t bs → room t + length bs ≡ room s)
-      → {t t' : S} {xs : List ℕ} → Puts S room holds true t t' xs → room t' + length xs ≡ room t
-  puts_less none less {t = t} {t' = t'} {xs = xs} p = less t t' xs (p.after t [] (none t))
+  pub puts_less : ((s : S) (o : List ℕ) → holds s o s o []) → ((s t : S) (o q bs : List ℕ) → holds s o t q bs → room t q + length bs ≡ room s o)
+      → {t t' : S} {q q' xs : List ℕ} → Puts S room holds true t q t' q' xs → room t' q' + length xs ≡ room t q
+  puts_less none less {t = t} {t' = t'} {q = q} {q' = q'} {xs = xs} p = less t t' q q' xs (p.after t q [] (none t q))
 
 -- an error is refused
 pub refused : {T E : Type 0} (r : Result T E) → IsErr r → is_ok r ≡ false

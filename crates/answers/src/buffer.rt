@@ -7,7 +7,7 @@ ghost use Rattle.text.proofs.Wrote.{wrote_none};
 use crate::sink::Sink;
 use arrayvec::CapacityError;
 
-// Counts bytes up to the limit.
+// Counts bytes up to the limit, and leaves the buffer alone.
 #[derive(Clone, Copy)]
 pub struct Count {
     pub len: usize,
@@ -15,15 +15,15 @@ pub struct Count {
 }
 
 impl Sink for Count {
-    ghost room = { λ s. s.limit - s.len };
+    ghost room = { λ s o. s.limit - s.len };
 
-    ghost holds = { λ s t bs. Counted s t bs };
+    ghost holds = { λ s o t q bs. Counted s o t q bs };
 
     ghost none = { Prim.search rules };
 
     ghost less = { Prim.search rules };
 
-    fn put(&mut self, _b: u8) -> Result<(), CapacityError> {
+    fn put(&mut self, _out: &mut [u8], _b: u8) -> Result<(), CapacityError> {
         if self.len >= self.limit {
             return Err(CapacityError::new(()));
         }
@@ -32,29 +32,28 @@ impl Sink for Count {
     }
 }
 
-// Writes bytes into the buffer from `len` on. The buffer is lent and may have any length, where a vector of fixed capacity wants a constant.
+// Writes bytes into the buffer from `len` on. The buffer may have any length, where a vector of fixed capacity wants a constant.
 // No Stack: its promise is of the buffer after it, not of the entries.
-#[derive(Drop)]
-pub struct Write<'a> {
-    pub buffer: &'a mut [u8],
+#[derive(Clone, Copy)]
+pub struct Write {
     pub len: usize,
 }
 
-impl<'a> Sink for Write<'a> {
-    ghost room = { λ s. length s.buffer.now - s.len };
+impl Sink for Write {
+    ghost room = { λ s o. length o - s.len };
 
-    ghost holds = { λ s t bs. Wrote s t bs };
+    ghost holds = { λ s o t q bs. Wrote s o t q bs };
 
-    ghost none = { λ s. record { same_buffer = refl; size = refl; len = omega arith; fits = omega arith; after = sym (wrote_none s.buffer.now s.len) } };
+    ghost none = { λ s o. record { size = refl; len = omega arith; fits = omega arith; after = sym (wrote_none o s.len) } };
 
     ghost less = { Prim.search rules };
 
-    fn put(&mut self, b: u8) -> Result<(), CapacityError> {
+    fn put(&mut self, out: &mut [u8], b: u8) -> Result<(), CapacityError> {
         let len = self.len;
-        if len >= self.buffer.len() {
+        if len >= out.len() {
             return Err(CapacityError::new(()));
         }
-        self.buffer[len] = b;
+        out[len] = b;
         self.len = len + 1;
         Ok(())
     }

@@ -8,11 +8,15 @@ use arrayvec::CapacityError;
 use itoa::Buffer;
 
 // Puts each of the bytes.
-pub(crate) fn put_bytes<S: Sink>(sink: &mut S, bytes: &[u8]) -> Result<(), CapacityError>
-    ensures { Puts S S.room S.holds (is_ok result) sink.old sink.new bytes.now }
+pub(crate) fn put_bytes<S: Sink>(
+    sink: &mut S,
+    out: &mut [u8],
+    bytes: &[u8],
+) -> Result<(), CapacityError>
+    ensures { Puts S S.room S.holds (is_ok result) sink.old out.old sink.new out.new bytes.now }
 {
     for b in bytes {
-        sink.put(*b)?;
+        sink.put(out, *b)?;
     }
     Ok(())
 }
@@ -20,21 +24,26 @@ pub(crate) fn put_bytes<S: Sink>(sink: &mut S, bytes: &[u8]) -> Result<(), Capac
 // Puts the name of a symbol.
 pub(crate) fn put_name<S: Sink, N: Names>(
     sink: &mut S,
+    out: &mut [u8],
     names: &N,
     symbol: u16,
 ) -> Result<(), CapacityError>
-    ensures { Puts S S.room S.holds (is_ok result) sink.old sink.new (N.Names.naming names.now symbol) }
+    ensures { Puts S S.room S.holds (is_ok result) sink.old out.old sink.new out.new (N.Names.naming names.now symbol) }
 {
     // by index: `Names` gives a name byte by byte, and says why
     for i in 0..names.name_len(symbol) {
-        sink.put(names.name_byte(symbol, i))?;
+        sink.put(out, names.name_byte(symbol, i))?;
     }
     Ok(())
 }
 
 // Puts a number in decimal.
-pub(crate) fn put_decimal<S: Sink>(sink: &mut S, n: usize) -> Result<(), CapacityError>
-    ensures { Puts S S.room S.holds (is_ok result) sink.old sink.new (decimal n) }
+pub(crate) fn put_decimal<S: Sink>(
+    sink: &mut S,
+    out: &mut [u8],
+    n: usize,
+) -> Result<(), CapacityError>
+    ensures { Puts S S.room S.holds (is_ok result) sink.old out.old sink.new out.new (decimal n) }
 {
-    put_bytes(sink, Buffer::new().format(n).as_bytes())
+    put_bytes(sink, out, Buffer::new().format(n).as_bytes())
 }

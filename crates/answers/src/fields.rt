@@ -9,29 +9,30 @@ use crate::sink::Sink;
 use arrayvec::CapacityError;
 
 // Puts the label of the n-th unbound variable.
-pub(crate) fn put_label<S: Sink>(sink: &mut S, n: u16) -> Result<(), CapacityError>
-    ensures { Puts S S.room S.holds (is_ok result) sink.old sink.new (44 ∷ 95 ∷ decimal n) }
+pub(crate) fn put_label<S: Sink>(sink: &mut S, out: &mut [u8], n: u16) -> Result<(), CapacityError>
+    ensures { Puts S S.room S.holds (is_ok result) sink.old out.old sink.new out.new (44 ∷ 95 ∷ decimal n) }
 {
-    put_bytes(sink, b",_")?;
-    put_decimal(sink, n as usize)
+    put_bytes(sink, out, b",_")?;
+    put_decimal(sink, out, n as usize)
 }
 
 // Puts a name, with its arity if there are arguments.
 pub(crate) fn put_symbol<S: Sink, N: Names>(
     sink: &mut S,
+    out: &mut [u8],
     names: &N,
     symbol: u16,
     arity: u16,
 ) -> Result<(), CapacityError>
     requires { arity < 10 }
-    ensures { Puts S S.room S.holds (is_ok result) sink.old sink.new (44 ∷ field (word_for (N.Names.naming names.now symbol) arity)) }
+    ensures { Puts S S.room S.holds (is_ok result) sink.old out.old sink.new out.new (44 ∷ field (word_for (N.Names.naming names.now symbol) arity)) }
 {
-    sink.put(b',')?;
-    put_name(sink, names, symbol)?;
+    sink.put(out, b',')?;
+    put_name(sink, out, names, symbol)?;
     if arity == 0 {
         return Ok(());
     }
-    sink.put(b'/')?;
+    sink.put(out, b'/')?;
     // one digit, as an arity has in a line
-    sink.put(b'0' + arity as u8)
+    sink.put(out, b'0' + arity as u8)
 }

@@ -53,14 +53,15 @@ impl<'a, N: Names> Terms<'a, N> {
     fn put_field<S: Sink>(
         &self,
         sink: &mut S,
+        out: &mut [u8],
         numbering: &mut Numbering,
         at: u16,
     ) -> Result<Frame, CapacityError>
         requires within { at < length self.now.cells.now }
         requires rooted { Rooted (cell self.now.cells.now at) }
         ensures frame { IfOk result (λ f. f ≡ frame_at (cell self.now.cells.now at) at) }
-        ensures smaller { OnOk result (S.room sink.new < S.room sink.old) }
-        ensures after { (us : List ℕ) → Numbered us numbering.old.numbers numbering.old.seen → Puts S S.room S.holds (is_ok result) sink.old sink.new (field_at (N.Names.naming self.now.names.now) (cell self.now.cells.now at) at us) × Numbered (seen_at (cell self.now.cells.now at) at us) numbering.new.numbers numbering.new.seen }
+        ensures smaller { OnOk result (S.room sink.new out.new < S.room sink.old out.old) }
+        ensures after { (us : List ℕ) → Numbered us numbering.old.numbers numbering.old.seen → Puts S S.room S.holds (is_ok result) sink.old out.old sink.new out.new (field_at (N.Names.naming self.now.names.now) (cell self.now.cells.now at) at us) × Numbered (seen_at (cell self.now.cells.now at) at us) numbering.new.numbers numbering.new.seen }
     {
         match self.cells[at as usize] {
             Cell::Node {
@@ -68,7 +69,7 @@ impl<'a, N: Names> Terms<'a, N> {
                 arity,
                 first,
             } => {
-                put_symbol(sink, self.names, symbol, arity)?;
+                put_symbol(sink, out, self.names, symbol, arity)?;
                 Ok(Frame {
                     owner: at,
                     next: first,
@@ -76,7 +77,7 @@ impl<'a, N: Names> Terms<'a, N> {
                 })
             }
             _ => {
-                put_label(sink, numbering.number(at))?;
+                put_label(sink, out, numbering.number(at))?;
                 Ok(Frame {
                     owner: at,
                     next: at,
@@ -90,17 +91,18 @@ impl<'a, N: Names> Terms<'a, N> {
     pub(crate) fn put_value<S: Sink>(
         &self,
         sink: &mut S,
+        out: &mut [u8],
         scratch: &mut Scratch,
         start: u16,
     ) -> Result<(), CapacityError>
         requires { start < length self.now.cells.now }
-        ensures { (us : List ℕ) (ρ : Valuation) → Numbered us scratch.old.numbering.numbers scratch.old.numbering.seen → Stands (N.Names.naming self.now.names.now) self.now.cells.now ρ → Puts S S.room S.holds (is_ok result) sink.old sink.new (written (ρ start) us) × MatchBool (is_ok result) (Numbered (through (note nat_eq) (ρ start) us) scratch.new.numbering.numbers scratch.new.numbering.seen) (Unit {0}) }
+        ensures { (us : List ℕ) (ρ : Valuation) → Numbered us scratch.old.numbering.numbers scratch.old.numbering.seen → Stands (N.Names.naming self.now.names.now) self.now.cells.now ρ → Puts S S.room S.holds (is_ok result) sink.old out.old sink.new out.new (written (ρ start) us) × MatchBool (is_ok result) (Numbered (through (note nat_eq) (ρ start) us) scratch.new.numbering.numbers scratch.new.numbering.seen) (Unit {0}) }
     {
         scratch.stack.clear();
         let mut at = start;
         loop {
             let place = root(self.cells, at);
-            let frame = self.put_field(sink, &mut scratch.numbering, place)?;
+            let frame = self.put_field(sink, out, &mut scratch.numbering, place)?;
             push_frame(&mut scratch.stack, frame);
             let Some(top) = scratch.stack.pop() else {
                 return Ok(());

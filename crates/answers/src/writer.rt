@@ -27,33 +27,35 @@ impl<'a, N: Names> Terms<'a, N> {
     fn put_variable<S: Sink>(
         &self,
         sink: &mut S,
+        out: &mut [u8],
         scratch: &mut Scratch,
         line: &[u8],
         variable: Variable,
     ) -> Result<(), CapacityError>
         requires { Inside line.now self.now.cells.now variable }
-        ensures { (us : List ℕ) (ρ : Valuation) → Numbered us scratch.old.numbering.numbers scratch.old.numbering.seen → Stands (N.Names.naming self.now.names.now) self.now.cells.now ρ → Puts S S.room S.holds (is_ok result) sink.old sink.new (told_one line.now ρ variable us) × MatchBool (is_ok result) (Numbered (through (note nat_eq) (ρ variable.cell) us) scratch.new.numbering.numbers scratch.new.numbering.seen) (Unit {0}) }
+        ensures { (us : List ℕ) (ρ : Valuation) → Numbered us scratch.old.numbering.numbers scratch.old.numbering.seen → Stands (N.Names.naming self.now.names.now) self.now.cells.now ρ → Puts S S.room S.holds (is_ok result) sink.old out.old sink.new out.new (told_one line.now ρ variable us) × MatchBool (is_ok result) (Numbered (through (note nat_eq) (ρ variable.cell) us) scratch.new.numbering.numbers scratch.new.numbering.seen) (Unit {0}) }
     {
-        sink.put(b',')?;
+        sink.put(out, b',')?;
         let start = variable.start as usize;
         let end = start + variable.len as usize;
-        put_bytes(sink, &line[start..end])?;
-        self.put_value(sink, scratch, variable.cell)
+        put_bytes(sink, out, &line[start..end])?;
+        self.put_value(sink, out, scratch, variable.cell)
     }
 
     // Puts all variables. Line and variables stay two parameters: a struct of both would be made for one call.
     fn put_variables<S: Sink>(
         &self,
         sink: &mut S,
+        out: &mut [u8],
         line: &[u8],
         variables: &[Variable],
     ) -> Result<(), CapacityError>
         requires { InsideAll line.now self.now.cells.now variables.now }
-        ensures { (ρ : Valuation) → Stands (N.Names.naming self.now.names.now) self.now.cells.now ρ → Puts S S.room S.holds (is_ok result) sink.old sink.new (told line.now ρ variables.now []) }
+        ensures { (ρ : Valuation) → Stands (N.Names.naming self.now.names.now) self.now.cells.now ρ → Puts S S.room S.holds (is_ok result) sink.old out.old sink.new out.new (told line.now ρ variables.now []) }
     {
         let mut scratch = Scratch::new();
         for &v in variables {
-            self.put_variable(sink, &mut scratch, line, v)?;
+            self.put_variable(sink, out, &mut scratch, line, v)?;
         }
         Ok(())
     }
@@ -62,15 +64,16 @@ impl<'a, N: Names> Terms<'a, N> {
     fn put_answer<S: Sink>(
         &self,
         sink: &mut S,
+        out: &mut [u8],
         line: &[u8],
         variables: &[Variable],
     ) -> Result<(), CapacityError>
         requires { InsideAll line.now self.now.cells.now variables.now }
-        ensures { (ρ : Valuation) → Stands (N.Names.naming self.now.names.now) self.now.cells.now ρ → Puts S S.room S.holds (is_ok result) sink.old sink.new (told_all line.now ρ variables.now) }
+        ensures { (ρ : Valuation) → Stands (N.Names.naming self.now.names.now) self.now.cells.now ρ → Puts S S.room S.holds (is_ok result) sink.old out.old sink.new out.new (told_all line.now ρ variables.now) }
     {
-        put_bytes(sink, b"A,")?;
-        put_decimal(sink, variables.len())?;
-        self.put_variables(sink, line, variables)
+        put_bytes(sink, out, b"A,")?;
+        put_decimal(sink, out, variables.len())?;
+        self.put_variables(sink, out, line, variables)
     }
 }
 
@@ -97,8 +100,10 @@ pub fn write_answer<N: Names>(
         len: 0,
         limit: buffer.len(),
     };
-    terms.put_answer(&mut count, line, variables).ok()?;
-    let mut write = Write { buffer, len: 0 };
-    terms.put_answer(&mut write, line, variables).unwrap();
+    terms.put_answer(&mut count, buffer, line, variables).ok()?;
+    let mut write = Write { len: 0 };
+    terms
+        .put_answer(&mut write, buffer, line, variables)
+        .unwrap();
     Some(write.len)
 }

@@ -6,9 +6,8 @@ use Rattle.answers.proofs.buffer.WriteSink.put.Goals as goal
 
 pub returns : goal.returns
 returns c = record {
-  after = λ s bs h.
-      let o = s.buffer.now in
-      let out = c.args.self.now.buffer.now in
+  after = λ s o bs h.
+      let out = c.args.out.now in
       let b = c.args.b in
       let len = c.args.self.now.len in
       let more = length_push bs b in
@@ -16,7 +15,6 @@ returns c = record {
       let small : s.len + length bs ≤ length o = omega (arith, h.size, h.len) in
       let lt' : s.len + length bs < length (wrote o s.len bs) = omega (arith, h.size, h.len, length_wrote o s.len bs small) in
       record {
-        same_buffer = h.same_buffer;
         size = length-set out len b ∙ h.size;
         len = omega (arith, h.len, more);
         fits = omega (arith, h.size, h.len, more);

@@ -22,7 +22,7 @@ loop-frame-init g c =
     record {
       within = c.requires;
       chain = λ ρ sol. subst (λ fs. Chain (λ i. size (ρ i)) (length c.args.self.now.cells.now) fs × Above (λ i. size (ρ i)) (size (ρ c.args.start)) fs) (sym empty) (tt, tt);
-      moved = λ us n. moved_start _ _ _ us _ _ _ _ empty (puts_none c.args.sink.now) n;
+      moved = λ us n. moved_start _ _ _ us _ _ _ _ empty (puts_none c.args.sink.now c.args.out.now) n;
     }
 
 pub returns-in_err-frame : goal.returns-in_err-frame

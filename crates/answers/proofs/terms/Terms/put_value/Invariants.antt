@@ -14,8 +14,8 @@ invariant-loop-frame g l =
       chain : (ρ : Valuation) → Sol (g.N.Names.naming l.self.names.now) l.self.cells.now ρ
           → Chain (λ i. size (ρ i)) (length l.self.cells.now) l.scratch.stack.items × Above (λ i. size (ρ i)) (size (ρ l.at)) l.scratch.stack.items;
       moved : (us : List ℕ) → Numbered us l.initial.scratch.numbering.numbers l.initial.scratch.numbering.seen
-          → Moved (g.N.Names.naming l.self.names.now) l.self.cells.now l.initial.at us (Puts g.row.S.Denot g.S.Sink.room g.S.Sink.holds true l.initial.sink l.sink) l.scratch.numbering.numbers l.scratch.numbering.seen l.at l.scratch.stack.items;
+          → Moved (g.N.Names.naming l.self.names.now) l.self.cells.now l.initial.at us (Puts g.row.S.Denot g.S.Sink.room g.S.Sink.holds true l.initial.sink l.initial.out l.sink l.out) l.scratch.numbering.numbers l.scratch.numbering.seen l.at l.scratch.stack.items;
     }
 
 abbrev pub decreases-loop-frame : goal.decreases-loop-frame
-decreases-loop-frame g l = g.S.Sink.room l.sink
+decreases-loop-frame g l = g.S.Sink.room l.sink l.out

@@ -1,12 +1,15 @@
 use Rattle.std.proofs.Common.{◌<◌, [], length, get_or, drop, refl, rules}
 use Rattle.answers.specs.declared.variable.Variable.{Variable}
 use Rattle.answers.specs.Streams.{told, told_one}
-use Rattle.answers.proofs.ShowLaws.{partly_next, partly_more, partly_all}
-use Rattle.answers.proofs.TakeLaws.{puts_stop, puts_then, puts_same, refused}
+use Rattle.answers.proofs.ShowLaws.{partly_none, partly_next, partly_more, partly_all}
+use Rattle.answers.proofs.TakeLaws.{puts_none, puts_stop, puts_then, puts_same, refused}
 use Rattle.answers.proofs.terms.Terms.put_variables.Goals as goal
 
 abbrev zeros : Variable
 zeros = record { start = 0; len = 0; cell = 0 }
+
+pub loop-v-init : goal.loop-v-init
+loop-v-init g c = λ ρ st. partly_none c.args.line.now ρ c.args.variables.now [] _ _ _ (puts_none c.args.sink.now c.args.out.now) c.new-scratch.ensures
 
 pub returns-in_err-put_variable : goal.returns-in_err-put_variable
 returns-in_err-put_variable g c =
