@@ -32,7 +32,7 @@ impl Sink for Count {
     }
 }
 
-// Writes bytes into the buffer from `len` on. The buffer may have any length, where a vector of fixed capacity wants a constant.
+// Writes bytes into the buffer from `len` on. The buffer is lent to each call, so that a sink is `Copy`, and may have any length, where a vector of fixed capacity wants a constant.
 // No Stack: its promise is of the buffer after it, not of the entries.
 #[derive(Clone, Copy)]
 pub struct Write {
