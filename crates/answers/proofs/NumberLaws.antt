@@ -1,5 +1,5 @@
 -- A table of numbers by first appearance.
-use Rattle.std.proofs.Common.{◌≡◌, ℕ, zero, suc, ◌+◌, ◌<◌, ◌≤◌, Bool, true, false, cond, eqb, ltb, ◌⊎◌, List, [], ◌∷◌, ◌++◌, length, get_or, slice_index_or, set, replicate, Option, Some, None, sym, refl, ap, ◌∙◌, subst, inl, inr, ⊎_elim, arith}
+use Rattle.std.proofs.Common.{◌≡◌, ℕ, zero, suc, ◌+◌, ◌<◌, ◌≤◌, Bool, true, false, cond, eqb, ltb, ◌⊎◌, List, [], ◌∷◌, ◌++◌, length, get_or, set, replicate, Option, Some, None, sym, refl, ap, ◌∙◌, subst, inl, inr, ⊎_elim, arith}
 use Rattle.std.proofs.lemmas.List.{length-append, get_or-set_same, get_or-set_other, length-set}
 use Rattle.std.proofs.lemmas.Bool.{cond-true, cond-false, eq-eqb, ne_eqb, lt-ltb, le-ltb, cases_lt, cases_eq}
 use Rattle.horn.specs.Answers.{place, note}
@@ -124,10 +124,11 @@ marked_none [] h = refl
 marked_none (None ∷ xs) h = marked_none xs (λ v l. h (suc v) (omega arith))
 marked_none (Some n ∷ xs) h = absurd (cc (h 0 (omega arith)))
 
-none_at : (n v : ℕ) → slice_index_or (replicate n None) v None ≡ given [] v
+pub numbered_none : (xs : List (Option ℕ)) → ((v : ℕ) → v < length xs → get_or xs v None ≡ None) → Numbered [] xs 0
+numbered_none xs h = record { counted = refl; each = h }
+
+-- the table as it is made
+pub none_at : (n v : ℕ) → get_or {A = Option ℕ} (replicate n None) v None ≡ None
 none_at zero v = refl
 none_at (suc n) zero = refl
 none_at (suc n) (suc v) = none_at n v
-
-pub numbered_none : (n : ℕ) → Numbered [] (replicate n None) 0
-numbered_none n = record { counted = refl; each = λ v l. none_at n v }
