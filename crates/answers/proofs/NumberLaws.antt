@@ -1,9 +1,9 @@
 -- A table of numbers by first appearance.
-use Rattle.std.proofs.Common.{◌≡◌, ℕ, zero, suc, ◌+◌, ◌<◌, ◌≤◌, Bool, true, false, cond, eqb, ltb, ◌⊎◌, List, [], ◌∷◌, ◌++◌, length, get_or, set, replicate, Option, Some, None, sym, refl, ap, ◌∙◌, subst, inl, inr, ⊎_elim, arith}
+use Rattle.std.proofs.Common.{◌≡◌, ℕ, zero, suc, ◌+◌, ◌<◌, ◌≤◌, Bool, true, false, cond, eqb, ltb, ◌⊎◌, List, [], ◌∷◌, ◌++◌, length, get_or, slice_index_or, set, replicate, Option, Some, None, is_some, sym, refl, ap, ◌∙◌, subst, inl, inr, ⊎_elim, arith}
 use Rattle.std.proofs.lemmas.List.{length-append, get_or-set_same, get_or-set_other, length-set}
 use Rattle.std.proofs.lemmas.Bool.{cond-true, cond-false, eq-eqb, ne_eqb, lt-ltb, le-ltb, cases_lt, cases_eq}
 use Rattle.horn.specs.Answers.{place, note}
-use Rattle.answers.specs.Numbering.{given, Numbered, marked}
+use Rattle.answers.specs.Numbering.{given, Numbered, Without, marked}
 
 pub place_le : (v : ℕ) (us : List ℕ) → place eqb v us ≤ length us
 place_le v [] = omega arith
@@ -118,6 +118,13 @@ marked_set (Some m ∷ xs) zero n h z = cc
 marked_set (None ∷ xs) (suc v) n h z = marked_set xs v n (omega arith) z
 marked_set (Some m ∷ xs) (suc v) n h z = omega (arith, marked_set xs v n (omega arith) z)
 
+pub marked_take : (xs : List (Option ℕ)) (v : ℕ) → is_some (get_or xs v None) ≡ true → marked (set xs v None) + 1 ≡ marked xs
+marked_take [] v z = absurd (cc)
+marked_take (None ∷ xs) zero z = absurd (cc)
+marked_take (Some m ∷ xs) zero z = omega arith
+marked_take (None ∷ xs) (suc v) z = marked_take xs v z
+marked_take (Some m ∷ xs) (suc v) z = omega (arith, marked_take xs v z)
+
 -- a table with no numbers
 pub marked_none : (xs : List (Option ℕ)) → ((v : ℕ) → v < length xs → get_or xs v None ≡ None) → marked xs ≡ 0
 marked_none [] h = refl
@@ -132,3 +139,9 @@ pub none_at : (n v : ℕ) → get_or {A = Option ℕ} (replicate n None) v None 
 none_at zero v = refl
 none_at (suc n) zero = refl
 none_at (suc n) (suc v) = none_at n v
+
+-- where no other cell had one
+pub numbered_without : (n : ℕ) (xs ys : List (Option ℕ)) (seen : ℕ) → seen ≡ marked ys → Without n xs ys → ((v : ℕ) → n ≤ v → slice_index_or xs v None ≡ None) → Numbered [] ys seen
+numbered_without n xs ys seen s h z =
+    let none : (v : ℕ) → get_or ys v None ≡ None = λ v. ⊎_elim (λ (a : v < n). h.gone v a) (λ (b : n ≤ v). h.others v b ∙ z v b) (cases_lt v n) in
+    record { counted = s ∙ marked_none ys (λ v l. none v); each = λ v l. none v }

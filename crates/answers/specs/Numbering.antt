@@ -1,5 +1,5 @@
 -- A table of numbers by first appearance.
-use Rattle.std.specs.Prelude.{◌≡◌, ℕ, suc, ◌<◌, cond, List, [], ◌∷◌, length, Option, Some, None, nat_eq, nat_lt, slice_index_or}
+use Rattle.std.specs.Prelude.{◌≡◌, ℕ, suc, ◌<◌, ◌≤◌, cond, List, [], ◌∷◌, length, Option, Some, None, nat_eq, nat_lt, slice_index_or}
 use Rattle.horn.specs.Answers.{place}
 
 -- the number of v, from 1, where the variables us have appeared; none if it has not
@@ -16,3 +16,8 @@ abbrev pub marked : List (Option ℕ) → ℕ
 marked [] = 0
 marked (None ∷ xs) = marked xs
 marked (Some n ∷ xs) = suc (marked xs)
+
+-- the later table has no numbers of the first n cells, and of the others it has those of the earlier one
+pub record Without (n : ℕ) (earlier later : List (Option ℕ)) : Type 0 where
+  pub gone : (v : ℕ) → v < n → slice_index_or later v None ≡ None
+  pub others : (v : ℕ) → n ≤ v → slice_index_or later v None ≡ slice_index_or earlier v None

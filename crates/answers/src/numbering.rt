@@ -1,8 +1,8 @@
 // The numbers of unbound variables, by first appearance.
-ghost use Rattle.std.specs.Prelude.{◌≡◌, ℕ, suc, ◌<◌, List, [], nat_eq};
+ghost use Rattle.std.specs.Prelude.{◌≡◌, ℕ, suc, ◌<◌, ◌≤◌, List, [], None, nat_eq, slice_index_or};
 ghost use Rattle.heap.specs.Limits.{cell_limit};
 ghost use Rattle.horn.specs.Answers.{note, place};
-ghost use Rattle.answers.specs.Numbering.{Numbered, marked};
+ghost use Rattle.answers.specs.Numbering.{Numbered, Without, marked};
 
 use heap::CELL_LIMIT;
 
@@ -37,5 +37,19 @@ impl Numbering {
         self.seen = next;
         self.numbers[v as usize] = Some(next);
         next
+    }
+
+    // Takes the numbers of the first `cells` cells away.
+    pub fn forget(&mut self, cells: u16)
+        ensures without { Without cells self.old.numbers self.new.numbers }
+        ensures left { self.new.seen ≡ marked self.new.numbers }
+        ensures all { ((v : ℕ) → cells ≤ v → slice_index_or self.old.numbers v None ≡ None) → Numbered [] self.new.numbers self.new.seen }
+    {
+        for v in 0..CELL_LIMIT.min(cells as usize) {
+            if self.numbers[v].is_some() {
+                self.numbers[v] = None;
+                self.seen -= 1;
+            }
+        }
     }
 }
