@@ -4,10 +4,36 @@ ghost use Rattle.unify.specs.Grows.{Grows};
 use crate::parts::{PART_LIMIT, Part};
 use arrayvec::ArrayVec;
 use cells::Store;
-use lines::{ARITY_LIMIT, Token};
+use lines::ARITY_LIMIT;
 
 // The most arguments of a structure.
 const ARGUMENT_LIMIT: usize = ARITY_LIMIT as usize;
+
+// What building needs beside the store. It lives as long as the program: a line clears no more of it than it needs.
+#[derive(Drop)]
+pub(crate) struct Draft {
+    // the cells of variables, at their first places
+    known: [Option<u16>; PART_LIMIT],
+    // the terms that are no structure's arguments yet
+    terms: ArrayVec<u16, PART_LIMIT>,
+}
+
+impl Draft {
+    pub(crate) fn new() -> Draft {
+        Draft {
+            known: [None; PART_LIMIT],
+            terms: ArrayVec::new(),
+        }
+    }
+
+    // A line of so many parts begins.
+    fn begin(&mut self, parts: usize) {
+        for cell in self.known.iter_mut().take(parts) {
+            *cell = None;
+        }
+        self.terms.clear();
+    }
+}
 
 // The cell of a variable, which is made where there is none yet.
 fn variable(store: &mut Store, known: &mut Option<u16>) -> Option<u16>
@@ -23,7 +49,7 @@ fn variable(store: &mut Store, known: &mut Option<u16>) -> Option<u16>
 fn structure(
     store: &mut Store,
     symbol: u16,
-    arity: usize,
+    arity: u8,
     terms: &mut ArrayVec<u16, PART_LIMIT>,
 ) -> Option<u16>
     ensures { Grows store.old store.new }
@@ -39,33 +65,27 @@ fn structure(
     store.push_structure(symbol, args.as_slice())
 }
 
-// The cell of a part; `known` are the cells of variables, at their first places.
-fn place(
-    store: &mut Store,
-    part: Part,
-    known: &mut [Option<u16>],
-    terms: &mut ArrayVec<u16, PART_LIMIT>,
-) -> Option<u16>
+// The cell of a part.
+fn place(store: &mut Store, part: Part, draft: &mut Draft) -> Option<u16>
     ensures { Grows store.old store.new }
 {
-    match part.token {
-        Token::Variable(_) => variable(store, known.get_mut(part.first as usize)?),
-        token => structure(store, part.first, token.arity(), terms),
+    match part.arity {
+        None => variable(store, draft.known.get_mut(part.first as usize)?),
+        Some(arity) => structure(store, part.first, arity, &mut draft.terms),
     }
 }
 
 // The cells of the two terms of the line; none where they are not two.
 #[tactic(auto, using(cells::proofs::GrowthLaws::grew_trans))]
-pub(crate) fn build(store: &mut Store, parts: &[Part]) -> Option<(u16, u16)>
+pub(crate) fn build(store: &mut Store, parts: &[Part], draft: &mut Draft) -> Option<(u16, u16)>
     ensures { Grows store.old store.new }
 {
-    let mut known = [None; PART_LIMIT];
-    let mut terms = ArrayVec::<u16, PART_LIMIT>::new();
+    draft.begin(parts.len());
     for part in parts.iter().rev() {
-        let cell = place(store, *part, &mut known, &mut terms)?;
-        terms.try_push(cell).ok()?;
+        let cell = place(store, *part, draft)?;
+        draft.terms.try_push(cell).ok()?;
     }
-    match terms.as_slice() {
+    match draft.terms.as_slice() {
         [b, a] => Some((*a, *b)),
         _ => None,
     }

@@ -6,18 +6,17 @@ mod parts;
 mod problem;
 mod writing;
 
-use cells::Store;
 use parts::INPUT_LIMIT;
-use problem::answer;
+use problem::Problem;
 use std::alloc::Global;
 use std::io;
-use std::io::{BufReader, BufWriter, Read, Write};
+use std::io::{BufWriter, Read, Write};
 
-// The line under way, with at most one byte too many, the cells, and the answer.
+// The line under way, with at most one byte too many, what answers it, and the answer.
 #[derive(Drop)]
 struct Matcher {
     line: Vec<u8>,
-    store: Store,
+    problem: Problem,
     text: Vec<u8>,
 }
 
@@ -25,30 +24,44 @@ impl Matcher {
     fn new(heap: Global) -> Matcher {
         Matcher {
             line: Vec::new(heap),
-            store: Store::new(),
+            problem: Problem::new(),
             text: Vec::new(heap),
         }
+    }
+
+    // Some bytes more: LF ends a line.
+    fn take(&mut self, bytes: &[u8], output: &mut impl Write) -> io::Result<()> {
+        for byte in bytes {
+            match *byte {
+                b'\n' => self.end_line(output)?,
+                b if self.line.len() <= INPUT_LIMIT => self.line.push(b)?,
+                _ => {}
+            }
+        }
+        Ok(())
     }
 
     // The line ends, and its answer is printed.
     fn end_line(&mut self, output: &mut impl Write) -> io::Result<()> {
         self.text.clear();
-        answer(&mut self.store, self.line.as_slice(), &mut self.text)?;
+        self.problem.answer(self.line.as_slice(), &mut self.text)?;
         self.line.clear();
         output.write_all(self.text.as_slice())
     }
 }
 
 fn main(rt: HostRuntime) -> io::Result<()> {
-    let input = BufReader::new(rt.alloc(), rt.stdin())?;
+    let mut input = rt.stdin();
     let mut output = BufWriter::new(rt.alloc(), rt.stdout())?;
     let mut matcher = Matcher::new(rt.alloc());
-    for byte in input.bytes() {
-        match byte? {
-            b'\n' => matcher.end_line(&mut output)?,
-            b if matcher.line.len() <= INPUT_LIMIT => matcher.line.push(b)?,
-            _ => {}
+    // bytes that a reader hands out one by one cost more than all else that is done with them
+    let mut chunk = [0; 4096];
+    for _ in 0..u64::MAX {
+        let n = input.read(&mut chunk)?;
+        if n == 0 {
+            break;
         }
+        matcher.take(&chunk[..n], &mut output)?;
     }
     output.flush()
 }

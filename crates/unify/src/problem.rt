@@ -3,12 +3,15 @@ ghost use Rattle.std.specs.Prelude.{◌≡◌};
 ghost use Rattle.cells.specs.Stores.{cells_of, bound_of};
 ghost use Rattle.unify.specs.Grows.{Grows};
 
-use crate::building::build;
-use crate::parts::{Part, read_parts};
-use crate::writing::write_term;
+use crate::building::{Draft, build};
+use crate::parts::{PART_LIMIT, Part, read_parts};
+use crate::writing::TermWriter;
+use arrayvec::ArrayVec;
 use cells::Store;
 use matching::Unlike;
 use std::alloc::AllocError;
+
+const REFUSED: &[u8] = b"refused\n";
 
 // What came of a problem; the common instance has a cell.
 #[derive(Clone, Copy)]
@@ -31,10 +34,10 @@ fn unified(store: &mut Store, a: u16, b: u16) -> Result<(), Unlike>
 
 // Makes the two terms of a line one.
 #[tactic(auto, using(cells::proofs::GrowthLaws::grew_trans))]
-fn matched(store: &mut Store, parts: &[Part]) -> Outcome
+fn matched(store: &mut Store, parts: &[Part], draft: &mut Draft) -> Outcome
     ensures { Grows store.old store.new }
 {
-    let Some((a, b)) = build(store, parts) else {
+    let Some((a, b)) = build(store, parts, draft) else {
         return Outcome::Refused;
     };
     match unified(store, a, b) {
@@ -46,37 +49,73 @@ fn matched(store: &mut Store, parts: &[Part]) -> Outcome
 fn write_outcome(
     text: &mut Vec<u8>,
     store: &Store,
+    line: &[u8],
     parts: &[Part],
+    writer: &mut TermWriter,
     outcome: Outcome,
 ) -> Result<(), AllocError> {
     match outcome {
-        Outcome::Refused => text.extend_from_slice(b"refused\n"),
+        Outcome::Refused => text.extend_from_slice(REFUSED),
         Outcome::Apart => text.extend_from_slice(b"no\n"),
         Outcome::Common(a) => {
             text.extend_from_slice(b"yes")?;
-            write_term(text, store, parts, a)?;
+            writer.write(text, store, line, parts, a)?;
             text.extend_from_slice(b"\n")
         }
     }
 }
 
 // Writes the common instance of the terms of a line, or that there is none; the store is then as it was.
-fn solve(store: &mut Store, parts: &[Part], text: &mut Vec<u8>) -> Result<(), AllocError>
+fn solve(
+    store: &mut Store,
+    line: &[u8],
+    parts: &[Part],
+    draft: &mut Draft,
+    writer: &mut TermWriter,
+    text: &mut Vec<u8>,
+) -> Result<(), AllocError>
     ensures cells { cells_of store.new ≡ cells_of store.old }
     ensures trail { bound_of store.new ≡ bound_of store.old }
 {
     let mark = store.mark();
     let top = store.top();
-    let outcome = matched(store, parts);
-    let written = write_outcome(text, store, parts, outcome);
+    let outcome = matched(store, parts, draft);
+    let written = write_outcome(text, store, line, parts, writer, outcome);
     store.leave(mark, top);
     written
 }
 
-// Writes the answer to a line.
-pub(crate) fn answer(store: &mut Store, line: &[u8], text: &mut Vec<u8>) -> Result<(), AllocError> {
-    match read_parts(*text.allocator(), line)? {
-        Some(parts) => solve(store, parts.as_slice(), text),
-        None => write_outcome(text, store, &[], Outcome::Refused),
+// What answers a line. It lives as long as the program: only a line with many names takes more memory.
+#[derive(Drop)]
+pub(crate) struct Problem {
+    parts: ArrayVec<Part, PART_LIMIT>,
+    draft: Draft,
+    store: Store,
+    writer: TermWriter,
+}
+
+impl Problem {
+    pub(crate) fn new() -> Problem {
+        Problem {
+            parts: ArrayVec::new(),
+            draft: Draft::new(),
+            store: Store::new(),
+            writer: TermWriter::new(),
+        }
+    }
+
+    // Writes the answer to a line.
+    pub(crate) fn answer(&mut self, line: &[u8], text: &mut Vec<u8>) -> Result<(), AllocError> {
+        let Some(parts) = read_parts(*text.allocator(), line, &mut self.parts)? else {
+            return text.extend_from_slice(REFUSED);
+        };
+        solve(
+            &mut self.store,
+            line,
+            parts,
+            &mut self.draft,
+            &mut self.writer,
+            text,
+        )
     }
 }
