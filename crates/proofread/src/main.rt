@@ -4,7 +4,7 @@
 use lines::Gathered;
 use prolog::{Verdict, proof_line};
 use std::alloc::Global;
-use std::io::{BufReader, BufWriter, Read, Write};
+use std::io::{BufWriter, Read, Write};
 use std::{fmt, io};
 
 // How many lines were read, and as what.
@@ -59,6 +59,17 @@ impl Proofreader {
         }
     }
 
+    // Some bytes more of the deck: LF ends a line.
+    fn take(&mut self, bytes: &[u8], output: &mut impl Write) -> io::Result<()> {
+        for byte in bytes {
+            match *byte {
+                b'\n' => self.end_line(output)?,
+                b => self.line.push(b),
+            }
+        }
+        Ok(())
+    }
+
     // The line ends, and what stands for it is printed.
     fn end_line(&mut self, output: &mut impl Write) -> io::Result<()> {
         self.totals.lines = self.totals.lines.saturating_add(1);
@@ -71,14 +82,17 @@ impl Proofreader {
 }
 
 fn main(rt: HostRuntime) -> io::Result<()> {
-    let input = BufReader::new(rt.alloc(), rt.stdin())?;
+    let mut input = rt.stdin();
     let mut output = BufWriter::new(rt.alloc(), rt.stdout())?;
     let mut reader = Proofreader::new(rt.alloc());
-    for byte in input.bytes() {
-        match byte? {
-            b'\n' => reader.end_line(&mut output)?,
-            b => reader.line.push(b),
+    // bytes that a reader hands out one by one cost more than all else that is done with them
+    let mut chunk = [0; 4096];
+    for _ in 0..u64::MAX {
+        let n = input.read(&mut chunk)?;
+        if n == 0 {
+            break;
         }
+        reader.take(&chunk[..n], &mut output)?;
     }
     // a last line without LF is a line
     if !reader.line.line().is_empty() {
