@@ -2,7 +2,6 @@
 ghost use Rattle.std.specs.Prelude.{◌≡◌, ◌+◌, ◌<◌, ◌≤◌, [], ◌∷◌, ◌++◌, length};
 ghost use Rattle.heap.specs.Limits.{cell_limit};
 
-use arrayvec::ArrayVec;
 use heap::{CELL_LIMIT, Cell};
 use std::marker::Model;
 
@@ -13,55 +12,72 @@ pub struct Bound {
     pub was: Cell,
 }
 
+// The entries are the first `len` of the items: an entry that is given up is not written over.
 #[derive(Drop)]
 pub struct Trail {
-    entries: ArrayVec<Bound, CELL_LIMIT>,
+    items: [Bound; CELL_LIMIT],
+    len: usize,
 }
 
 impl Model for Trail {
-    ghost use Rattle.std.specs.Prelude.{List};
+    ghost use Rattle.std.specs.Prelude.{◌≡◌, ◌≤◌, List, length, take};
+    ghost use Rattle.heap.specs.Limits.{cell_limit};
     ghost use Rattle.matching.specs.declared.trail.Bound.{Bound};
 
     ghost Value = { List Bound };
 
-    ghost view = { λ t. t.entries.items };
+    ghost view = { λ t. take t.len t.items };
+
+    ghost invariant = { λ t. (length t.items ≡ cell_limit) × (t.len ≤ cell_limit) };
 }
 
 impl Trail {
     pub fn new() -> Trail
-        ensures { result ≡ [] }
+        ensures entries { result ≡ [] }
+        ensures within { length result ≤ cell_limit }
     {
         Trail {
-            entries: ArrayVec::new(),
+            items: [Bound {
+                at: 0,
+                was: Cell::Unbound,
+            }; CELL_LIMIT],
+            len: 0,
         }
     }
 
     // Forgets all entries.
     pub fn clear(&mut self)
-        ensures { self.new ≡ [] }
+        ensures entries { self.new ≡ [] }
+        ensures within { length self.new ≤ cell_limit }
     {
-        self.entries.clear();
+        self.len = 0;
     }
 
     pub fn len(&self) -> usize
         ensures value { result ≡ length self.now }
         ensures within { result ≤ cell_limit }
     {
-        self.entries.len()
+        self.len
     }
 
     pub fn push(&mut self, b: Bound)
         requires { length self.old < cell_limit }
-        ensures { self.new ≡ self.old ++ b ∷ [] }
+        ensures entries { self.new ≡ self.old ++ b ∷ [] }
+        ensures within { length self.new ≤ cell_limit }
     {
-        self.entries.push(b);
+        let len = self.len;
+        self.items[len] = b;
+        self.len = len + 1;
     }
 
     pub fn pop(&mut self) -> Bound
         requires { 0 < length self.old }
         ensures len { length self.new + 1 ≡ length self.old }
         ensures entries { self.old ≡ self.new ++ result ∷ [] }
+        ensures within { length self.old ≤ cell_limit }
     {
-        self.entries.pop().unwrap()
+        let len = self.len - 1;
+        self.len = len;
+        self.items[len]
     }
 }

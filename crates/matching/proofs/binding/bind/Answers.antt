@@ -6,4 +6,4 @@ pub push-requires : goal.push-requires
 push-requires c = omega (arith, bind_room c.args.cells.now c.args.i c.requires.within c.requires.root, c.requires.room)
 
 pub returns-clause-kept : goal.returns-clause-kept
-returns-clause-kept c = kept_one c.args.cells.now _ _ c.args.i c.args.j c.requires.within c.requires.root c.push.ensures
+returns-clause-kept c = kept_one c.args.cells.now _ _ c.args.i c.args.j c.requires.within c.requires.root c.push.ensures.entries

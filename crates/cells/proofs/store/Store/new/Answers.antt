@@ -3,4 +3,4 @@ use Rattle.cells.proofs.StateLaws.{fine_empty}
 use Rattle.cells.proofs.store.Store.new.Goals as goal
 
 pub invariant_of-result : goal.invariant_of-result
-invariant_of-result c = record { few = omega (arith, ap length c.new.ensures); fine = ∣ fine_empty c.new.ensures c.new-2.ensures ∣₁ }
+invariant_of-result c = record { few = omega (arith, ap length c.new.ensures); fine = ∣ fine_empty c.new.ensures c.new-2.ensures.entries ∣₁ }
