@@ -1,16 +1,17 @@
 -- Laws of the way back.
-use Rattle.std.proofs.Common.{◌≡◌, ℕ, zero, suc, ◌<◌, ◌≤◌, Bool, true, false, cond, ltb, List, [], ◌∷◌, ◌++◌, length, take, drop, set, sym, refl, ap, ◌∙◌, subst, append_assoc, append-nil, arith, length-append}
+use Rattle.std.proofs.Common.{◌≡◌, ℕ, zero, suc, ◌<◌, ◌≤◌, Bool, true, false, cond, ltb, List, [], ◌∷◌, ◌++◌, map, length, take, drop, set, sym, refl, ap, ◌∙◌, subst, subst₂, append_assoc, append-nil, arith, length-append}
 use Rattle.std.specs.List.{AllByRecursion}
 use Rattle.std.proofs.lemmas.List.{length_push, take_all, take-take, drop_all, take_at, drop_at, drop-append-le}
 use Rattle.std.proofs.ByRecursion.{All-append}
 use Rattle.heap.specs.Limits.{cell_limit}
 use Rattle.heap.specs.Heaps.{Heap}
 use Rattle.heap.specs.declared.cell.Cell.{Cell}
+use Rattle.heap.specs.declared.cell.Cell.TheVariants.{Ref, Node}
 use Rattle.matching.specs.Trails.{undone, InTrail, Kept}
 use Rattle.matching.specs.declared.trail.Bound.{Bound}
 use Rattle.matching.proofs.TrailLaws.{undone_append}
 use Rattle.cells.specs.States.{Fine}
-use Rattle.cells.specs.Growth.{grown, Grew, Saves}
+use Rattle.cells.specs.Growth.{grown, fits, structured, Grew, Saves}
 
 take_set : {X : Type 0} (n : ℕ) (xs : List X) (i : ℕ) (v : X) → take n (set xs i v) ≡ set (take n xs) i v
 take_set zero [] i v = refl
@@ -20,13 +21,17 @@ take_set (suc n) [] i v = refl
 take_set (suc n) (x ∷ xs) zero v = refl
 take_set (suc n) (x ∷ xs) (suc i) v = ap (λ ys. x ∷ ys) (take_set n xs i v)
 
-trail_wider : (H H' : Heap) (t : List Bound) → length H ≤ length H' → InTrail H t → InTrail H' t
+pub trail_wider : (H H' : Heap) (t : List Bound) → length H ≤ length H' → InTrail H t → InTrail H' t
 trail_wider H H' [] h a = tt
 trail_wider H H' (b ∷ t) h a = (omega (arith, a.0), trail_wider H H' t h a.1)
 
 pub take_undone : (n : ℕ) (t : List Bound) (H : Heap) → take n (undone t H) ≡ undone t (take n H)
 take_undone n [] H = refl
 take_undone n (b ∷ t) H = take_set n (undone t H) b.at b.was ∙ ap (λ X. set X b.at b.was) (take_undone n t H)
+
+-- where the first m cells are looked at, bindings are taken back on all
+pub take_undone_first : (n m : ℕ) (t : List Bound) (H : Heap) → n ≤ m → take n (undone t H) ≡ take n (undone t (take m H))
+take_undone_first n m t H h = take_undone n t H ∙ ap (undone t) (sym (take-take n m H h)) ∙ sym (take_undone n t (take m H))
 
 pub grew_none : (H : Heap) (t : List Bound) → Grew H t H t
 grew_none H t = record { added = []; longer = sym (append-nil t); back = take_all (length H) H (omega arith); more = omega arith; inside = tt }
@@ -45,6 +50,26 @@ grew_grown H t c = go (ltb (length H) cell_limit)
   where
     go : (b : Bool) → Grew H t (cond b (H ++ c ∷ []) H) t
     go true = grew_push H t c
+    go false = grew_none H t
+
+-- as the pushes say it
+pub grew_by : {H H' : Heap} {t t' : List Bound} (c : Cell) → H' ≡ grown H c → t' ≡ t → Grew H t H' t'
+grew_by {H} {H'} {t} {t'} c e f = subst₂ (Grew H t) (sym e) (sym f) (grew_grown H t c)
+
+grew_append : (H : Heap) (t : List Bound) (G : Heap) → Grew H t (H ++ G) t
+grew_append H t G = record {
+  added = [];
+  longer = sym (append-nil t);
+  back = take_at H G (length H) refl;
+  more = omega (arith, length-append H G);
+  inside = tt;
+}
+
+pub grew_structured : {H H' : Heap} {t t' : List Bound} (f : ℕ) (args : List ℕ) → H' ≡ cond (fits H args) (structured H f args) H → t' ≡ t → Grew H t H' t'
+grew_structured {H} {H'} {t} {t'} f args e q = subst₂ (Grew H t) (sym e) (sym q) (go (fits H args))
+  where
+    go : (b : Bool) → Grew H t (cond b (structured H f args) H) t
+    go true = subst (λ X. Grew H t X t) (sym (append_assoc H (map Ref args) (Node f (length args) (length H) ∷ []))) (grew_append H t (map Ref args ++ Node f (length args) (length H) ∷ []))
     go false = grew_none H t
 
 pub grew_kept : {H H' : Heap} {t t' : List Bound} → Kept H t H' t' → Grew H t H' t'

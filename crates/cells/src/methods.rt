@@ -6,13 +6,35 @@ ghost use Rattle.heap.specs.Solutions.{Root, Apart};
 ghost use Rattle.heap.specs.declared.cell.Cell.TheVariants.{Unbound, Ref, Node};
 ghost use Rattle.matching.specs.Trails.{undone, Kept};
 ghost use Rattle.matching.specs.Unifies.{Unified};
+ghost use Rattle.cells.specs.States.{Fine};
 ghost use Rattle.cells.specs.Growth.{placed, grown, fits, structured, Spare, Grew, Saves};
 ghost use Rattle.cells.specs.Stores.{cells_of, bound_of};
 
-use crate::store::Store;
-use arrayvec::ArrayVec;
-use heap::{Cell, root};
+use crate::store::{PAIR_LIMIT, Store};
+use heap::{CELL_LIMIT, Cell, root};
 use matching::{Trail, Unifier, Unlike, undo};
+
+// Makes the terms at `a` and `b` one, or says that they cannot be, where the first `top` of the cells are in use.
+// A function over a slice: of a field that is an array no part can be lent.
+fn unify_in_use(
+    unifier: &mut Unifier<PAIR_LIMIT>,
+    cells: &mut [Cell],
+    top: u16,
+    trail: &mut Trail,
+    a: u16,
+    b: u16,
+) -> Result<(), Unlike>
+    requires within { top ≤ length cells.old }
+    requires few { top ≤ cell_limit }
+    requires fine { Fine (take top cells.old) (length trail.old) }
+    requires a_within { a < top }
+    requires b_within { b < top }
+    ensures fine { Fine (take top cells.new) (length trail.new) }
+    ensures kept { Kept (take top cells.old) trail.old (take top cells.new) trail.new }
+    ensures result { MatchBool (is_ok result) (Unified (take top cells.old) (take top cells.new) a b) (Apart (take top cells.old) a b) }
+{
+    unifier.unify(&mut cells[..top as usize], trail, a, b)
+}
 
 impl Store {
     pub fn new() -> Store
@@ -20,7 +42,8 @@ impl Store {
         ensures trail { bound_of result ≡ [] }
     {
         Store {
-            cells: ArrayVec::new(),
+            cells: [Cell::Unbound; CELL_LIMIT],
+            top: 0,
             trail: Trail::new(),
             unifier: Unifier::new(),
         }
@@ -31,7 +54,7 @@ impl Store {
         ensures cells { cells_of self.new ≡ [] }
         ensures trail { bound_of self.new ≡ [] }
     {
-        self.cells.clear();
+        self.top = 0;
         self.trail.clear();
     }
 
@@ -42,7 +65,7 @@ impl Store {
         ensures closed { Closed result.now }
         ensures few { length result.now ≤ cell_limit }
     {
-        self.cells.as_slice()
+        &self.cells[..self.top as usize]
     }
 
     // How many cells are in use.
@@ -50,7 +73,7 @@ impl Store {
         ensures value { result ≡ length (cells_of self.now) }
         ensures within { result ≤ cell_limit }
     {
-        self.cells.len() as u16
+        self.top
     }
 
     // How many bindings the trail has. With `top` it says what to come back to.
@@ -86,11 +109,12 @@ impl Store {
         ensures trail { bound_of self.new ≡ bound_of self.old }
         ensures grew { Grew (cells_of self.old) (bound_of self.old) (cells_of self.new) (bound_of self.new) }
     {
-        if self.cells.is_full() {
+        let at = self.top;
+        if at as usize >= CELL_LIMIT {
             return None;
         }
-        let at = self.top();
-        self.cells.push(c);
+        self.cells[at as usize] = c;
+        self.top = at + 1;
         Some(at)
     }
 
@@ -139,10 +163,10 @@ impl Store {
         ensures trail { bound_of self.new ≡ bound_of self.old }
         ensures grew { Grew (cells_of self.old) (bound_of self.old) (cells_of self.new) (bound_of self.new) }
     {
-        if args.len() >= self.cells.remaining_capacity() {
+        let first = self.top();
+        if args.len() >= CELL_LIMIT - first as usize {
             return None;
         }
-        let first = self.top();
         for x in args {
             self.push_ref(*x);
         }
@@ -157,8 +181,14 @@ impl Store {
         ensures grew { Grew (cells_of self.old) (bound_of self.old) (cells_of self.new) (bound_of self.new) }
         ensures result { MatchBool (is_ok result) (Unified (cells_of self.old) (cells_of self.new) a b) (Apart (cells_of self.old) a b) }
     {
-        self.unifier
-            .unify(self.cells.as_mut_slice(), &mut self.trail, a, b)
+        unify_in_use(
+            &mut self.unifier,
+            &mut self.cells,
+            self.top,
+            &mut self.trail,
+            a,
+            b,
+        )
     }
 
     // Takes back the bindings since the trail was `mark` long, and gives up the cells from `top` on.
@@ -167,7 +197,7 @@ impl Store {
         ensures cells { cells_of self.new ≡ take top (undone (drop mark (bound_of self.old)) (cells_of self.old)) }
         ensures trail { bound_of self.new ≡ take mark (bound_of self.old) }
     {
-        undo(self.cells.as_mut_slice(), &mut self.trail, mark);
-        self.cells.truncate(top as usize);
+        undo(&mut self.cells, &mut self.trail, mark);
+        self.top = top;
     }
 }

@@ -1,6 +1,6 @@
-use Rattle.std.proofs.Common.{length, ap, arith}
+use Rattle.std.proofs.Common.{refl}
 use Rattle.cells.proofs.StateLaws.{fine_empty}
 use Rattle.cells.proofs.store.Store.new.Goals as goal
 
-pub invariant_of-result : goal.invariant_of-result
-invariant_of-result c = record { few = omega (arith, ap length c.new.ensures); fine = ∣ fine_empty c.new.ensures c.new-2.ensures.entries ∣₁ }
+pub invariant_of-result-clause-fine : goal.invariant_of-result-clause-fine
+invariant_of-result-clause-fine c = ∣ fine_empty refl c.new.ensures.entries ∣₁
