@@ -40,6 +40,17 @@ seen_less s k i q =
       | no ne ↦ inl (sym (get_or-set_other s k i true false ne) ∙ q)
     ]
 
+pub visited_none : (s : List Bool) (t : List ℕ) (lo : ℕ) → Visited s s t t lo lo
+visited_none s t lo = record {
+  long = refl;
+  more = λ i h. h;
+  all = λ i l h. absurd (omega arith);
+  new = λ i h. inl h;
+  kept = λ i h. h;
+  whence = λ i h. inl h;
+  spent = refl;
+}
+
 module _ (s s' : List Bool) (t t' : List ℕ) (lo k : ℕ) (v : Visited s s' t t' lo k) (from : lo ≤ k) where
   pub visited_old : Seen s' k → Visited s s' t t' lo (k + 1)
   visited_old q = record {
@@ -121,6 +132,11 @@ not_true q = let z : ◌≡◌ {A = ℕ} 0 1 = cc in omega arith
 pub nothing_left : {X : Type 0} (xs : List X) → (0 < length xs → ◌≡◌ {A = Bool} false true) → xs ≡ []
 nothing_left [] h = refl
 nothing_left (x ∷ xs) h = absurd (not_true (h (omega arith)))
+
+-- each cell is pushed once, so that room for the cells without a mark is enough
+pub visit_room : {s s' : List Bool} {t t' : List ℕ} {lo k : ℕ} (room : ℕ) → Visited s s' t t' lo k → sum_by blank s + length t ≤ room
+    → k < length s' → get_or s' k false ≡ false → length t' < room
+visit_room {s} {s'} {k = k} room v few lt q = omega (arith, v.spent, sum_by-set blank s' k true false lt, ap blank q)
 
 -- a turn of `visit` at a cell without a mark
 pub visit_more : {s s' s'' : List Bool} {t t' t'' : List ℕ} {lo k : ℕ} → Visited s s' t t' lo k → lo ≤ k → k < length s' → get_or s' k false ≡ false

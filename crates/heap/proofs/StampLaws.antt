@@ -1,5 +1,6 @@
 -- Laws of stamps: those below a new one mark nothing.
-use Rattle.std.proofs.Common.{◌≡◌, ℕ, zero, suc, ◌<◌, true, false, eqb, ◌≢◌, List, [], ◌∷◌, length, get_or, set, replicate, refl, ap, ◌∙◌, arith}
+use Rattle.std.proofs.Common.{◌≡◌, ℕ, zero, suc, ◌<◌, ◌≤◌, true, false, eqb, ◌≢◌, List, [], ◌∷◌, length, get_or, set, replicate, refl, ap, ◌∙◌, arith, get_or-set_other, get_or-set_same}
+use native.Mathlib.Decide.{ℕ_discrete}
 use Rattle.std.proofs.lemmas.List.{map-set}
 use Rattle.std.proofs.lemmas.Bool.{eq-eqb, ne_eqb}
 use Rattle.heap.specs.Marks.{marked}
@@ -16,6 +17,13 @@ marked_none (s ∷ stamps) last (suc n) e old =
 
 pub marked_put : (stamps : List ℕ) (last i : ℕ) → marked (set stamps i last) last ≡ set (marked stamps last) i true
 marked_put stamps last i = map-set (λ s. eqb s last) stamps i last ∙ ap (set (marked stamps last) i) (eq-eqb last last refl)
+
+pub stamps_put : (stamps : List ℕ) (last i : ℕ) → i < length stamps → ((k : ℕ) → get_or stamps k 0 ≤ last) → (k : ℕ) → get_or (set stamps i last) k 0 ≤ last
+stamps_put stamps last i h old k =
+    elim (ℕ_discrete k i) [
+      | yes e ↦ omega (arith, ap (λ x. get_or (set stamps i last) x 0) e, get_or-set_same stamps i last 0 h)
+      | no ne ↦ omega (arith, get_or-set_other stamps i k last 0 ne, old k)
+    ]
 
 pub blank_stamps : (n i : ℕ) → ◌≡◌ {A = ℕ} (get_or (replicate n 0) i 0) 0
 blank_stamps zero i = refl

@@ -55,7 +55,8 @@ impl Marks {
 
     pub fn put(&mut self, i: u16)
         requires { i < cell_limit }
-        ensures { self.new ≡ slice_set self.old i true }
+        ensures marks { self.new ≡ slice_set self.old i true }
+        ensures long { length self.new ≡ cell_limit }
     {
         self.stamps[i as usize] = self.last;
     }

@@ -1,16 +1,25 @@
 -- Laws of a turn of matching.
-use Rattle.std.proofs.Common.{◌≡◌, ℕ, ◌+◌, ◌<◌, Bool, true, false, ◌≢◌, List, [], ◌∷◌, ◌++◌, length, set, Result, Ok, Err, IsErr, is_ok, MatchBool, sym, ap, ◌∙◌, subst, subst₂, arith, length-append, length-set}
-use Rattle.std.proofs.lemmas.List.{length_push}
+use Rattle.std.proofs.Common.{◌≡◌, ℕ, ◌+◌, ◌<◌, Bool, true, false, ◌≢◌, List, [], ◌∷◌, ◌++◌, length, set, Result, Ok, Err, IsErr, is_ok, MatchBool, sym, refl, ap, ◌∙◌, subst, subst₂, arith, length-append, length-set}
+use Rattle.std.proofs.lemmas.List.{length_push, nil_from_length}
 use Rattle.std.proofs.ByRecursion.{All-append, All-push}
 use Rattle.heap.specs.Heaps.{Heap, cell, Sound, Closed, Reach, Rooted, total, arity}
 use Rattle.heap.specs.Solutions.{Naming, Valuation, Sol, Root, Apart}
 use Rattle.heap.specs.declared.cell.Cell.{Cell}
 use Rattle.heap.specs.declared.cell.Cell.TheVariants.{Unbound, Ref, Node}
-use Rattle.heap.proofs.HeapLaws.{sound_ref, closed_ref, total_set, node_within}
+use Rattle.heap.proofs.HeapLaws.{sound_ref, closed_ref, total_set, node_within, reach_free, reach_constant}
 use Rattle.heap.proofs.SolutionLaws.{tells_ref, bind_into, bind_back, merge_into, merge_back, constants_same, occurs, apart_swap}
-use Rattle.matching.specs.Unifies.{Agree, Inside, rows, Joined, Unifying}
+use Rattle.matching.specs.Unifies.{Unified, Agree, Inside, pair, rows, Joined, Unifying}
 use Rattle.matching.specs.declared.pairs.Pair.{Pair}
 use Rattle.matching.proofs.RowLaws.{all_left, all_right, rows_length, rows_inside, rows_agree, agree_rows}
+
+-- from a root without arguments no other cell is reached
+pub reach_none : (H : Heap) (i j : ℕ) → Rooted (cell H j) → arity (cell H j) ≡ 0 → i ≢ j → Reach H j i → ⊥
+reach_none H i j root none ne = go (cell H j) refl root none
+  where
+    go : (c : Cell) → cell H j ≡ c → Rooted c → arity c ≡ 0 → Reach H j i → ⊥
+    go Unbound e _ _ = reach_free H i j e ne
+    go (Ref k) e r _ = absurd r
+    go (Node f n q) e _ z = reach_constant H i j f q (e ∙ ap (λ x. Node f x q) z) ne
 
 inside_set : (H : Heap) (i : ℕ) (c : Cell) (ps : List Pair) → Inside H ps → Inside (set H i c) ps
 inside_set H i c ps h = rw length-set h
@@ -58,6 +67,12 @@ module _ (H : Heap) (sound : Sound H) (closed : Closed H) (i j : ℕ) (li : i < 
     falls = omega arith;
   }
 
+pub constants : (H : Heap) (ps : List Pair) (i j f n p g m q : ℕ) → Sound H → Closed H → i < length H → j < length H
+    → cell H i ≡ Node f n p → cell H j ≡ Node g m q → f ≡ g → n ≡ m → n ≡ 0 → Joined H ps i j H ps
+constants H ps i j f n p g m q sound closed li lj at_i at_j fg nm z =
+    joined_constants H sound closed i j li lj ps f p q (at_i ∙ ap (λ x. Node f x p) z)
+    (at_j ∙ ap (λ x. Node x m q) (sym fg) ∙ ap (λ x. Node f x q) (sym nm ∙ z))
+
 joined_swap : {H H' : Heap} {ps ps' : List Pair} {i j : ℕ} → Joined H ps j i H' ps' → Joined H ps i j H' ps'
 joined_swap n = record {
   sound = n.sound;
@@ -97,6 +112,9 @@ pub attached_nodes : (H : Heap) (ps qs : List Pair) (i j : ℕ) (H' : Heap) (f n
 attached_nodes H ps qs i j H' f n p g m q sound closed li lj ne at_i at_j fg nm h e =
     let at_j' : cell H j ≡ Node f n q = at_j ∙ ap (λ x. Node x m q) (sym fg) ∙ ap (λ x. Node f x q) (sym nm) in
     subst₂ (Joined H ps i j) (sym h.0) (sym e) (joined_nodes H sound closed i j li lj ps f n p q at_i at_j' (λ x. ne (sym x)) h.1)
+
+pub pair_inside : (H : Heap) {qs : List Pair} (ps : List Pair) (p : Pair) → qs ≡ ps ++ p ∷ [] → Inside H qs → (p.left < length H) × (p.right < length H)
+pair_inside H ps p taken h = (all_right _ ps (p ∷ []) (subst (Inside H) taken h)).0
 
 -- a turn, at the roots i and j of the pair that was taken
 module _ {H₀ H : Heap} {a b : ℕ} {qs : List Pair} (ps : List Pair) (p : Pair) (i j : ℕ) (taken : qs ≡ ps ++ p ∷ [])
@@ -139,3 +157,26 @@ module _ {H₀ H : Heap} {a b : ℕ} {qs : List Pair} (ps : List Pair) (p : Pair
 
   pub turn_apart : Apart H i j → Apart H₀ a b
   turn_apart apart names ρ t s e = let r = pair_agrees names ρ s e in apart names ρ (was.tells names t) r.0 r.2
+
+pub unifying_none : (H : Heap) (a b : ℕ) (ps : List Pair) → Sound H → Closed H → a < length H → b < length H → ps ≡ pair a b ∷ [] → Unifying H a b H ps
+unifying_none H a b ps sound closed la lb e =
+    subst (Unifying H a b H) (sym e) (record {
+      sound = sound;
+      closed = closed;
+      tells = λ names t. t;
+      inside = ((la, lb), tt);
+      into = λ names ρ s g. (s, g.0);
+      back = λ names ρ s q. (s, (q, tt));
+      few = omega arith;
+    })
+
+pub unifying_all : {H₀ H : Heap} {a b : ℕ} {ps : List Pair} → length ps ≡ 0 → Unifying H₀ a b H ps → Unified H₀ H a b
+unifying_all {H₀} {H} {a} {b} {ps} none was =
+    let u : Unifying H₀ a b H [] = subst (Unifying H₀ a b H) (nil_from_length ps none) was in
+    record {
+      sound = u.sound;
+      closed = u.closed;
+      tells = u.tells;
+      into = λ names ρ s. u.into names ρ s tt;
+      back = λ names ρ s e. (u.back names ρ s e).0;
+    }

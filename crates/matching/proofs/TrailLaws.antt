@@ -1,8 +1,8 @@
 -- Laws of the trail.
-use Rattle.std.proofs.Common.{◌≡◌, ℕ, ◌<◌, ◌≤◌, List, [], ◌∷◌, ◌++◌, length, take, drop, set, sym, refl, ap, ◌∙◌, subst, append_assoc, arith, length-append, length-set}
+use Rattle.std.proofs.Common.{◌≡◌, ℕ, ◌<◌, ◌≤◌, List, [], ◌∷◌, ◌++◌, length, take, drop, set, sym, refl, ap, ◌∙◌, subst, append_assoc, append-nil, arith, length-append, length-set}
 use native.Mathlib.Decide.{ℕ_discrete}
 use Rattle.std.specs.List.{AllByRecursion}
-use Rattle.std.proofs.lemmas.List.{set-set, set-get_or, drop-append-le, take-append-le, length_push, drop_at, take_at}
+use Rattle.std.proofs.lemmas.List.{set-set, set-get_or, drop-append-le, take-append-le, length_push, take_all, drop_all, drop_at, take_at}
 use Rattle.std.proofs.ByRecursion.{All-append}
 use Rattle.heap.specs.Heaps.{Heap, cell, Rooted, total, plain, arity}
 use Rattle.heap.specs.declared.cell.Cell.{Cell}
@@ -19,6 +19,18 @@ undone_append (b ∷ t) u H = ap (λ x. set x b.at b.was) (undone_append t u H)
 pub undone_length : (t : List Bound) (H : Heap) → length (undone t H) ≡ length H
 undone_length [] H = refl
 undone_length (b ∷ t) H = length-set (undone t H) b.at b.was ∙ undone_length t H
+
+pub kept_none : (H : Heap) (t : List Bound) → Kept H t H t
+kept_none H t = record {
+  added = [];
+  longer = sym (append-nil t);
+  back = refl;
+  long = refl;
+  inside = tt;
+  bound = omega arith;
+  fewer = omega arith;
+  nodes = λ i f n b e. e;
+}
 
 -- what is no reference may be bound
 pub plain_one : (c : Cell) → Rooted c → plain c ≡ 1
@@ -62,6 +74,9 @@ kept_trans {H} {H'} {H''} {t} {t'} {t''} p q = record {
 all_last : {X : Type 0} (P : X → Type 0) (xs : List X) (y : X) → AllByRecursion P (xs ++ y ∷ []) → AllByRecursion P xs × P y
 all_last P xs y h = (all_left P xs (y ∷ []) h, (all_right P xs (y ∷ []) h).0)
 
+pub undoing_none : (H : Heap) (t : List Bound) (mark : ℕ) → InTrail H (drop mark t) → mark ≤ length t → Undoing H t mark H t
+undoing_none H t mark inside marked = record { inside = inside; marked = marked; same = refl; front = refl }
+
 module _ {H₀ H : Heap} {t₀ t : List Bound} {mark : ℕ} (t' : List Bound) (b : Bound) (taken : t ≡ t' ++ b ∷ []) (more : mark < length t) (was : Undoing H₀ t₀ mark H t) where
   undo_room : mark ≤ length t'
   undo_room = omega (arith, ap length taken, length_push t' b)
@@ -79,6 +94,10 @@ module _ {H₀ H : Heap} {t₀ t : List Bound} {mark : ℕ} (t' : List Bound) (b
     same = sym (undone_append (drop mark t') (b ∷ []) H) ∙ ap (λ x. undone x H) (sym undo_cut) ∙ was.same;
     front = sym (ap (take mark) taken ∙ take-append-le mark t' (b ∷ []) undo_room) ∙ was.front;
   }
+
+pub undoing_all : {H₀ H : Heap} {t₀ t : List Bound} {mark : ℕ} → length t ≤ mark → Undoing H₀ t₀ mark H t → (H ≡ undone (drop mark t₀) H₀) × (t ≡ take mark t₀)
+undoing_all {H₀} {H} {t₀} {t} {mark} done was =
+    (ap (λ x. undone x H) (sym (drop_all mark t done)) ∙ was.same, sym (take_all mark t done) ∙ was.front)
 
 -- what matching added is taken back
 module _ {H H' : Heap} {t t' : List Bound} (k : Kept H t H' t') (n : ℕ) (e : n ≡ length t) where
