@@ -4,9 +4,8 @@ ghost use Rattle.cells.specs.Stores.{cells_of, bound_of};
 ghost use Rattle.unify.specs.Grows.{Grows};
 
 use crate::building::{Draft, build};
-use crate::parts::{PART_LIMIT, Part, read_parts};
+use crate::parts::{Part, Parts};
 use crate::writing::TermWriter;
-use arrayvec::ArrayVec;
 use cells::Store;
 use matching::Unlike;
 use std::alloc::AllocError;
@@ -85,10 +84,10 @@ fn solve(
     written
 }
 
-// What answers a line. It lives as long as the program: only a line with many names takes more memory.
+// What answers a line, in memory that serves for every line.
 #[derive(Drop)]
 pub(crate) struct Problem {
-    parts: ArrayVec<Part, PART_LIMIT>,
+    parts: Parts,
     draft: Draft,
     store: Store,
     writer: TermWriter,
@@ -97,7 +96,7 @@ pub(crate) struct Problem {
 impl Problem {
     pub(crate) fn new() -> Problem {
         Problem {
-            parts: ArrayVec::new(),
+            parts: Parts::new(),
             draft: Draft::new(),
             store: Store::new(),
             writer: TermWriter::new(),
@@ -106,7 +105,7 @@ impl Problem {
 
     // Writes the answer to a line.
     pub(crate) fn answer(&mut self, line: &[u8], text: &mut Vec<u8>) -> Result<(), AllocError> {
-        let Some(parts) = read_parts(*text.allocator(), line, &mut self.parts)? else {
+        let Some(parts) = self.parts.read(line) else {
             return text.extend_from_slice(REFUSED);
         };
         solve(
