@@ -55,6 +55,9 @@ module _ (s : Symbols) where
       let r = says_drop α σ n code p.1 in
       ((λ h. r.0 (one.0 h)), (λ h. one.1 (r.1 h)))
 
+  pub says_undrop : (α σ : Terming) (n : ℕ) (code : List Instruction) → Pieces n code → Says s (drop n code) α σ → Says s code α σ
+  says_undrop α σ n code p = (says_drop α σ n code p).1
+
   pub goals_drop : (σ π : Terming) (n : ℕ) (code : List Instruction) → Pieces n code → goals s code σ π ≡ goals s (drop n code) σ π
   goals_drop σ π zero code p = refl
   goals_drop σ π (suc n) [] p = absurd p

@@ -21,7 +21,7 @@ use Rattle.entering.specs.Turns.{Slots, Fits, Claim, Nothing, Stands, Turned, Un
 use Rattle.entering.specs.Ready.{In, operand_of, Pieces, Ready, dues, calls}
 use Rattle.entering.specs.States.{laid, State, state, Setting, Steps, Stuck, Going, Stepped}
 use Rattle.entering.proofs.TurnLaws.{same_trans, turned_still}
-use Rattle.entering.proofs.ReadyLaws.{span_is, parts_span, says_drop, goals_drop, ready_drop, dues_drop, goals_agree, goals_same}
+use Rattle.entering.proofs.ReadyLaws.{span_is, parts_span, says_drop, says_undrop, goals_drop, ready_drop, dues_drop, goals_agree, goals_same}
 
 pub worth_same : (s : Symbols) (g : Goal) (n : ℕ) (ρ τ : Valuation) → ((k : ℕ) → k < g.arity → g.first + k < n) → Same n ρ τ → worth s ρ g ≡ worth s τ g
 worth_same s g n ρ τ held same = ap (node (s.name g.symbol)) (span_ext ρ τ g.first g.first g.arity (λ k l. same (g.first + k) (held k l)))
@@ -143,6 +143,9 @@ module _ (k : Setting) (R : List Operand) (G : List Goal) {H : Heap} {S : Slots}
 
   -- an argument of the goal
   module _ (o : Operand) (a : ℕ) (go : Going k (state H S R G (Get o a ∷ rest))) where
+    pub get_within : k.first + (a - 1) < length H
+    get_within = go.args_in (a - 1) (let lo : 0 < a = go.ready.0 in let hi : a ≤ k.args = go.ready.1 in omega arith)
+
     get_at : (ρ : Valuation) (α : Terming) → span α 1 k.args ≡ span ρ k.first k.args → α a ≡ ρ (k.first + (a - 1))
     get_at ρ α e =
         let lo : 0 < a = go.ready.0 in
@@ -189,7 +192,7 @@ module _ (k : Setting) (R : List Operand) (G : List Goal) {H : Heap} {S : Slots}
         record {
           going = going_on k R G (w ∷ rest) go (drop n rest) t.longer same t.stands (ready_drop k.table k.args (length S) (length R) go.put n rest pieces ready) paid (omega (arith, d.1, none));
           steps = steps_turned k R G (w ∷ rest) go (SlotIs y f op n) (drop n rest) structure_ask (SlotIs y f op n) t
-              (λ s names ρ α σ e x h. subst (λ X. X) (sym (says s α σ)) (x ∙ ap (node (s.name f)) (sym (parts_is s names σ)), (says_drop s α σ n rest pieces).1 h))
+              (λ s names ρ α σ e x h. subst (λ X. X) (sym (says s α σ)) (x ∙ ap (node (s.name f)) (sym (parts_is s names σ)), says_undrop s α σ n rest pieces h))
               (λ s σ π names. leave s σ π ∙ goals_drop s σ π n rest pieces);
           paid = omega arith;
         }
