@@ -1,5 +1,5 @@
 -- An instruction, and the words after it.
-use Rattle.std.proofs.Common.{◌≡◌, ℕ, ◌+◌, ◌-◌, ◌<◌, ◌≤◌, ◌⊎◌, List, [], ◌∷◌, ◌++◌, map, length, get_or, take, drop, set, Result, Ok, Err, IsErr, MatchResult, sym, refl, ap, ◌∙◌, subst, inl, inr, arith, length-drop, get_or-drop}
+use Rattle.std.proofs.Common.{◌≡◌, ℕ, ◌+◌, ◌-◌, ◌<◌, ◌≤◌, ◌⊎◌, List, [], ◌∷◌, ◌++◌, map, length, get_or, take, drop, set, Result, Ok, Err, IsErr, MatchResult, sym, refl, ap, ◌∙◌, subst, inl, inr, arith}
 use lib.ListN.{length-map, get_or-map}
 use Rattle.std.proofs.lemmas.List.{length-take-le, get_or-take, drop-map}
 use Rattle.horn.specs.Terms.{node}
@@ -8,7 +8,6 @@ use Rattle.heap.specs.Heaps.{Heap}
 use Rattle.code.specs.Words.{decode}
 use Rattle.code.specs.Meaning.{Symbols, Terming, parts, Says, goals}
 use Rattle.code.specs.declared.instructions.Operand.{Operand}
-use Rattle.code.specs.declared.instructions.Operand.TheVariants.{Fresh}
 use Rattle.code.specs.declared.instructions.Instruction.{Instruction}
 use Rattle.code.specs.declared.instructions.Instruction.TheVariants.{Allocate, Get, GetStructure, Unify, Put, PutStructure, Set, Call, Proceed}
 use Rattle.entering.specs.declared.goal.Goal.{Goal}
@@ -25,13 +24,6 @@ use Rattle.entry.specs.Runs.{Reached}
 pub stopped : {T E : Type 0} (P : T → Type 0) (Q : Type 0) (r : Result T E) → IsErr r → Q → MatchResult r P (λ _. Q)
 stopped P Q (Ok x) h q = absurd (cc)
 stopped P Q (Err e) h q = q
-
--- the arguments that were put
-pub puts_long : (puts : List Operand) (n : ℕ) → n < length puts → length (take (1 + n - 1) (drop 1 puts)) ≡ n
-puts_long puts n lt = length-take-le (1 + n - 1) (drop 1 puts) (omega (arith, length-drop 1 puts)) ∙ omega arith
-
-pub put_is : (puts : List Operand) (n j : ℕ) → j < n → get_or (take (1 + n - 1) (drop 1 puts)) j (Fresh 0) ≡ put_at puts j
-put_is puts n j lt = get_or-take (1 + n - 1) (drop 1 puts) j (Fresh 0) (omega arith) ∙ get_or-drop 1 puts j (Fresh 0)
 
 module _ (rest : List ℕ) where
   abbrev code : List Instruction

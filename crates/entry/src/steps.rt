@@ -38,8 +38,8 @@ fn pass(store: &mut Store, slots: &mut [Option<u16>], puts: &[Operand], n: u16)
     ensures long { length (cells_of store.new) ≡ length (cells_of store.old) + n }
     ensures result { Turns (cells_of store.old) slots.old (AllTake (length slots.old) (put_at puts.now) n) Nothing (Rows (length (cells_of store.old)) (put_at puts.now) n) (cells_of store.new) slots.new }
 {
-    for o in &puts[1..1 + n as usize] {
-        make(store, slots, *o);
+    for k in 0..n {
+        make(store, slots, puts[1 + k as usize]);
     }
 }
 

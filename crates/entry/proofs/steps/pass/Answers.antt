@@ -1,33 +1,24 @@
-use Rattle.std.proofs.Common.{◌≡◌, ◌<◌, length, subst, arith}
-use Rattle.cells.specs.Stores.{cells_of}
-use Rattle.entering.specs.Turns.{Nothing, Turns, AllTake, Rows}
+use Rattle.std.proofs.Common.{◌≡◌, ◌+◌, length, get_or, refl, subst, arith}
+use Rattle.code.specs.declared.instructions.Operand.TheVariants.{Fresh}
+use Rattle.cells.specs.Stores.{cells_of, bound_of}
 use Rattle.entry.specs.Operands.{put_at}
+use Rattle.entry.specs.Loops.{Building}
 use Rattle.cells.proofs.StoreLaws.{store_fine}
 use Rattle.entry.proofs.StructureLaws.{building_none, building_more, taken_at}
-use Rattle.entry.proofs.WordLaws.{puts_long, put_is}
 use Rattle.entry.proofs.steps.pass.Goals as goal
 
-pub loop-o-init : goal.loop-o-init
-loop-o-init c = building_none _ _ c.args.slots.now (put_at c.args.puts.now) _ (store_fine c.args.store.now) c.requires.inside
+pub loop-k-init : goal.loop-k-init
+loop-k-init c = building_none _ _ c.args.slots.now (put_at c.args.puts.now) _ (store_fine c.args.store.now) c.requires.inside
 
-pub make-requires-clause-taken : goal.make-requires-clause-taken
-make-requires-clause-taken c =
-    let lt : c.loop-o.o-index < c.args.n = omega (arith, puts_long c.args.puts.now c.args.n c.requires.within) in
-    taken_at (put_at c.args.puts.now) c.args.n c.loop-o.o-index (length c.args.slots.now) (length c.loop-o.slots) _ (put_is c.args.puts.now c.args.n c.loop-o.o-index lt) c.loop-o.auto.slots lt c.requires.taken
+pub loop-k-preserved : goal.loop-k-preserved
+loop-k-preserved c =
+    building_more _ _ c.args.slots.now (put_at c.args.puts.now) c.loop-k.k (cells_of c.loop-k.store) (cells_of c.make.new.store) _ _ c.loop-k.slots c.make.new.slots (get_or c.args.puts.now (1 + c.loop-k.k) (Fresh 0))
+    refl
+    (taken_at (put_at c.args.puts.now) c.args.n c.loop-k.k (length c.args.slots.now) (length c.loop-k.slots) (get_or c.args.puts.now (1 + c.loop-k.k) (Fresh 0)) refl c.loop-k.auto.slots (omega arith) c.requires.taken)
+    c.loop-k.auto.slots c.make.ensures.cells c.make.ensures.slots c.make.ensures.trail c.loop-k.invariant
 
-pub loop-o-preserved : goal.loop-o-preserved
-loop-o-preserved c =
-    let op = put_at c.args.puts.now in
-    let l = c.loop-o in
-    let lt : l.o-index < c.args.n = omega (arith, puts_long c.args.puts.now c.args.n c.requires.within) in
-    let e = put_is c.args.puts.now c.args.n l.o-index lt in
-    building_more _ _ c.args.slots.now op l.o-index (cells_of l.store) (cells_of c.make.new.store) _ _ l.slots c.make.new.slots _ e
-    (taken_at op c.args.n l.o-index (length c.args.slots.now) (length l.slots) _ e l.auto.slots lt c.requires.taken)
-    l.auto.slots c.make.ensures.cells c.make.ensures.slots c.make.ensures.trail l.invariant
-
-pub returns-clause-result : goal.returns-clause-result
-returns-clause-result c =
-    let S = c.args.slots.now in
-    let e : c.loop-o.o-index ≡ c.args.n = omega (arith, puts_long c.args.puts.now c.args.n c.requires.within) in
-    subst (λ n. Turns (cells_of c.args.store.now) S (AllTake (length S) (put_at c.args.puts.now) n) Nothing (Rows (length (cells_of c.args.store.now)) (put_at c.args.puts.now) n) (cells_of c.loop-o.store) c.loop-o.slots) e
-    c.loop-o.invariant.rows
+pub returns : goal.returns
+returns c =
+    let e : c.loop-k.k ≡ c.args.n = omega arith in
+    let b = subst (λ z. Building (cells_of c.args.store.now) (bound_of c.args.store.now) c.args.slots.now (put_at c.args.puts.now) z (cells_of c.loop-k.store) (bound_of c.loop-k.store) c.loop-k.slots) e c.loop-k.invariant in
+    record { grew = b.grew; long = b.long; result = b.rows }
