@@ -1,7 +1,7 @@
 -- Laws of stacks in arrays, and of each word.
-use Rattle.std.proofs.Common.{◌≡◌, ℕ, zero, suc, ◌+◌, ◌<◌, ◌≤◌, List, [], ◌∷◌, ◌++◌, length, get_or, drop, reverse, set, None, sym, refl, ap, ◌∙◌, subst, ap₂, inl, inr, add-one, append_assoc, append-nil, arith, get_or-set_other, get_or-set_same}
+use Rattle.std.proofs.Common.{◌≡◌, ℕ, zero, suc, ◌+◌, ◌-◌, ◌<◌, ◌≤◌, List, [], ◌∷◌, ◌++◌, length, get_or, take, drop, reverse, set, None, sym, refl, ap, ◌∙◌, subst, ap₂, inl, inr, add-one, append_assoc, append-nil, arith, length-drop, get_or-set_other, get_or-set_same}
 use Rattle.std.proofs.Math.Seq.{drop-append_seam}
-use Rattle.std.proofs.lemmas.List.{drop_all, drop_more, length-reverse, reverse-append}
+use Rattle.std.proofs.lemmas.List.{drop_all, get_or-reverse, length-reverse, reverse-append, take-append-drop}
 use Rattle.horn.specs.Terms.{var}
 use Rattle.heap.proofs.PushLaws.{closed_none}
 use Rattle.heap.specs.Heaps.{Heap}
@@ -30,15 +30,22 @@ module _ {X : Type 0} (d : X) where
   top_push xs n x lt =
       ap (from_top d (set xs n x)) (add-one n) ∙ ap₂ (λ (y : X) (ys : List X). y ∷ ys) (get_or-set_same xs n x d lt) (top_set xs n n x (omega arith))
 
--- an entry that is added, and one that is taken
+-- an entry that is added, and those that are left below the n at the top
 pub pushed : (items items' : List Entry) (e : Entry) → items' ≡ items ++ e ∷ [] → reverse items' ≡ e ∷ reverse items
 pushed items items' e q = ap reverse q ∙ reverse-append items (e ∷ [])
 
-pub popped : (es : List Entry) (k : ℕ) (items items' : List Entry) (e : Entry) → items ≡ items' ++ e ∷ [] → reverse items ≡ drop k es → k < length es → (e ≡ entry_at es k) × (reverse items' ≡ drop (k + 1) es)
-popped es k items items' e q h lt =
-    let front : reverse items ≡ e ∷ reverse items' = pushed items' items e q in
-    let more : drop k es ≡ entry_at es k ∷ drop (k + 1) es = drop_more es k (Atom 0) lt in
-    (cc, cc)
+pub from_end : (items xs : List Entry) (count k : ℕ) → xs ≡ items → count ≡ length items → k < length items → get_or xs (count - 1 - k) (Atom 0) ≡ entry_at (reverse items) k
+from_end items xs count k xe ce lt =
+    ap (λ z. get_or z (count - 1 - k) (Atom 0)) xe ∙ ap (λ m. get_or items (m - 1 - k) (Atom 0)) ce ∙ sym (get_or-reverse items k (Atom 0) lt)
+
+pub left_below : (items : List Entry) (n : ℕ) → n ≤ length items → reverse (take (length items - n) items) ≡ drop n (reverse items)
+left_below items n le =
+    let m = length items - n in
+    let front = take m items in
+    let taken = drop m items in
+    let parted : reverse items ≡ reverse taken ++ reverse front = ap reverse (sym (take-append-drop m items)) ∙ reverse-append front taken in
+    let size : length (reverse taken) ≡ n = length-reverse taken ∙ length-drop m items ∙ omega arith in
+    sym (ap (drop n) parted ∙ ap (λ z. drop z (reverse taken ++ reverse front)) (sym size) ∙ drop-append_seam (reverse taken) (reverse front))
 
 module _ (table : List ℕ) (H : Heap) (S : Slots) (items : List Entry) (p : Piece) (fit : FitOne table (length S) (length items) p) (G : List Goal) where
   pub builds_constant : (c : ℕ) → p ≡ Constant c → (items' : List Entry) → items' ≡ items ++ Atom c ∷ [] → Builds table p H S (reverse items) G H S (reverse items') G

@@ -51,8 +51,10 @@ pub(crate) fn seat_all(
     ensures seated { Seating table.now (cells_of store.old) slots.old (entry_at (reverse entries.old.items)) n (cells_of store.new) slots.new }
 {
     let first = store.top();
-    for _ in 0..n {
-        seat(store, slots, table, entries.pop().unwrap());
+    let count = entries.len();
+    for k in 0..n {
+        seat(store, slots, table, entries[count - 1 - k as usize]);
     }
+    entries.truncate(count - n as usize);
     first
 }

@@ -6,6 +6,6 @@ mod pieces;
 mod starting;
 mod theorems;
 
-pub use pieces::Piece;
+pub use pieces::{Entry, Piece};
 pub use starting::start;
 pub use theorems::{query_is_spelled, started_query_is_stored};

@@ -12,7 +12,7 @@ pub enum Piece {
 
 // A term that waits for the structure or goal that it is an argument of.
 #[derive(Clone, Copy)]
-pub(crate) enum Entry {
+pub enum Entry {
     Constant(u16),
     Variable(u16),
     Cell(u16),
