@@ -9,7 +9,6 @@ use Rattle.horn.specs.Weights.{own, weigh, weighs, under, load, clause_weight}
 use Rattle.horn.specs.Notation.{wordss}
 use Rattle.horn.proofs.Blanks.{written_aparts}
 use Rattle.lines.specs.declared.kind.Kind.TheVariants.{Clause as ClauseLine}
-use Rattle.lines.specs.declared.faults.Area.TheVariants.{Symbols, CodeWords}
 use Rattle.lines.specs.declared.faults.CallFault.TheVariants.{Limit}
 use Rattle.lines.specs.Grammar.{Proper}
 use Rattle.lines.specs.Clauses.{clause_from, read_clause, SpellsClause, OneReading}
@@ -68,10 +67,10 @@ spelt line (cons h gs) some one =
 
 -- the replies to a line that spells the clause c
 module _ (d : Contents) (line : List ℕ) (c : Clause) (h : Ok c ≡ read_clause line) (lines : length d.lines < 256) where
-  pub adding_2 : 256 < length (note_words d.symbols (words_in c)) → adding d line ≡ Err (Limit Symbols)
+  pub adding_2 : 256 < length (note_words d.symbols (words_in c)) → adding d line ≡ Err (Limit 2)
   adding_2 l = rw (← h) (grind (arith, nat_tests, length-append))
 
-  pub adding_3 : length (note_words d.symbols (words_in c)) ≤ 256 → 8192 < d.words + (clause_weight c + 2) → adding d line ≡ Err (Limit CodeWords)
+  pub adding_3 : length (note_words d.symbols (words_in c)) ≤ 256 → 8192 < d.words + (clause_weight c + 2) → adding d line ≡ Err (Limit 3)
   adding_3 s l = rw (← h) (grind (arith, nat_tests, length-append))
 
   pub adding_ok : length (note_words d.symbols (words_in c)) ≤ 256 → d.words + (clause_weight c + 2) ≤ 8192 → adding d line ≡ Ok (extended d line c)

@@ -9,6 +9,7 @@ use Rattle.lines.specs.declared.faults.Area.TheVariants.{Clauses, Symbols, CodeW
 use Rattle.lines.specs.declared.faults.CallFault.{CallFault}
 use Rattle.lines.specs.declared.faults.CallFault.TheVariants.{Line, Limit}
 use Rattle.lines.specs.Lines.{then}
+use Rattle.lines.specs.Refusals.{area_place}
 use Rattle.lines.specs.Clauses.{read_clause}
 use Rattle.symbol_table.specs.Symbols.{Signature}
 use Rattle.symbol_table.specs.Numbers.{note_words}
@@ -38,7 +39,7 @@ passed d =
     (cond (nat_lt 8192 d.words) (Some CodeWords) None))
 
 abbrev pub within : Contents → Option Area → Result Contents CallFault
-within d (Some area) = Err (Limit area)
+within d (Some area) = Err (Limit (area_place area))
 within d None = Ok d
 
 -- what adding a line gives: the contents with it, or the fault

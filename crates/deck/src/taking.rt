@@ -44,12 +44,12 @@ impl Deck {
     {
         let clause = read_clause(line)?;
         if self.lines.is_full() {
-            return Err(CallFault::Limit(Area::Clauses));
+            return Err(Area::Clauses.into());
         }
-        note_symbols(&mut self.symbols, clause.body).map_err(|_| CallFault::Limit(Area::Symbols))?;
+        note_symbols(&mut self.symbols, clause.body).map_err(|_| Area::Symbols)?;
         let words = self.words + (clause.weight + 2);
         if words > CODE_LIMIT {
-            return Err(CallFault::Limit(Area::CodeWords));
+            return Err(Area::CodeWords.into());
         }
         self.lines.push(ArrayVec::try_from(line).unwrap());
         self.words = words;

@@ -4,7 +4,7 @@ use Rattle.std.specs.List.{flat_map}
 use Rattle.std.proofs.lemmas.List.{take_at, drop_at, length-append, length-drop, length-take-le, length-map, take-append-drop}
 use Rattle.std.proofs.lemmas.Bool.{and_parts, and_from, eqb-true, eqb-false, eq-eqb, leb-true, le-leb, cond-true}
 use Rattle.code.specs.declared.rules.Rule.{Rule}
-use Rattle.code.specs.Rules.{broken}
+use Rattle.code.specs.Rules.{broken, rule_number}
 use Rattle.code.specs.Tests.{every, chosen}
 use Rattle.code.proofs.ReadyLaws.{runnable}
 use Rattle.image.specs.declared.rows.Row.{Row}
@@ -167,7 +167,7 @@ clause_runnable ar code low [] i h j = tt
 clause_runnable ar code low (r ∷ rs) i h j = go (λ e. clause_runnable ar code low rs (i + 1) e) (broken ar r.predicate r.key (code_of code r (next (length code) rs))) refl h j
   where
     go : (code_fault ar code (i + 1) rs ≡ None → (j : ℕ) → ClauseRunnable ar code rs j) → (v : Option Rule) → broken ar r.predicate r.key (code_of code r (next (length code) rs)) ≡ v
-        → chosen v (λ rule. Some (Code (i + 1) rule)) (code_fault ar code (i + 1) rs) ≡ None → (j : ℕ) → ClauseRunnable ar code (r ∷ rs) j
+        → chosen v (λ rule. Some (Code (i + 1) (rule_number rule))) (code_fault ar code (i + 1) rs) ≡ None → (j : ℕ) → ClauseRunnable ar code (r ∷ rs) j
     go ih None e h zero = runnable ar r.predicate r.key (code_of code r (next (length code) rs)) low e
     go ih None e h (suc j) = ih h j
     go ih (Some v) e h j = cc

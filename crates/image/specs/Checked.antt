@@ -1,6 +1,6 @@
 -- What the image check answers: the parts of an image, or its first fault.
 use Rattle.std.specs.Prelude.{ℕ, ◌+◌, ◌*◌, Bool, cond, not, ◌&&◌, ◌||◌, List, [], ◌∷◌, map, length, take, drop, Some, None, Ok, Err, Option, Result, ◌==◌, nat_le}
-use Rattle.code.specs.Rules.{broken}
+use Rattle.code.specs.Rules.{broken, rule_number}
 use Rattle.code.specs.Tests.{chosen}
 use Rattle.image.specs.declared.rows.Row.{Row}
 use Rattle.image.specs.declared.faults.ImageFault.{ImageFault}
@@ -24,7 +24,7 @@ unless fault None r = r
 abbrev pub code_fault : List ℕ → List ℕ → ℕ → List Row → Option ImageFault
 code_fault arities code i [] = None
 code_fault arities code i (r ∷ rs) =
-    chosen (broken arities r.predicate r.key (code_of code r (next (length code) rs))) (λ rule. Some (Code (i + 1) rule)) (code_fault arities code (i + 1) rs)
+    chosen (broken arities r.predicate r.key (code_of code r (next (length code) rs))) (λ rule. Some (Code (i + 1) (rule_number rule))) (code_fault arities code (i + 1) rs)
 
 -- as many words as c rows and k code words take, and no code without a clause
 abbrev pub fitting : ℕ → ℕ → ℕ → Bool

@@ -20,7 +20,7 @@ pub(crate) fn check_code(rows: &[[u32; 3]], code: &[u32], arities: &[u8]) -> Res
         if let Some(rule) = broken_rule(own, arities, row.predicate, row.key) {
             return Err(ImageFault::Code {
                 clause: i + 1,
-                rule,
+                rule: rule.number(),
             });
         }
     }

@@ -2,7 +2,6 @@
 ghost use Rattle.std.specs.Prelude.{◌≡◌};
 ghost use Rattle.image.specs.Refusals.{image_refusal};
 
-use code::Rule;
 use lines::Refusal;
 
 #[derive(Clone, Copy, PartialEq, Eq)]
@@ -15,8 +14,8 @@ pub enum ImageFault {
     Layout,
     // the row of a clause, from 1
     Row { clause: usize },
-    // a clause, from 1, whose code breaks a rule
-    Code { clause: usize, rule: Rule },
+    // a clause, from 1, whose code breaks a rule; any number has a refusal
+    Code { clause: usize, rule: u8 },
 }
 
 impl From<ImageFault> for Refusal {
@@ -28,7 +27,7 @@ impl From<ImageFault> for Refusal {
             ImageFault::Symbol { place } => (13, place, 0),
             ImageFault::Layout => (14, 0, 0),
             ImageFault::Row { clause } => (14, clause, 0),
-            ImageFault::Code { clause, rule } => (15, clause, rule.number()),
+            ImageFault::Code { clause, rule } => (15, clause, rule),
         };
         Refusal {
             number,

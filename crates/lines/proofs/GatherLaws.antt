@@ -1,6 +1,6 @@
 -- The beginning of a line that grows by a byte, and how much of it tells what it is read as.
-use Rattle.std.proofs.Common.{◌≡◌, ℕ, ◌<◌, Bool, true, false, eqb, ltb, leb, List, [], ◌∷◌, ◌++◌, length, take, Ok, Err, sym, refl, ap, ◌∙◌, arith}
-use Rattle.std.proofs.lemmas.List.{take_all, take_at, length_push, length-take-le}
+use Rattle.std.proofs.Common.{◌≡◌, ℕ, ◌+◌, ◌<◌, ◌≤◌, Bool, true, false, eqb, ltb, leb, List, [], ◌∷◌, ◌++◌, length, take, set, Ok, Err, sym, refl, ap, ◌∙◌, arith}
+use Rattle.std.proofs.lemmas.List.{take_all, take_at, take_more_set, length_push, length-take-le}
 use Rattle.std.proofs.lemmas.Bool.{cond-true, or_right, lt-ltb, leb-true, leb-false}
 use Rattle.lines.specs.declared.kind.Kind.{Kind}
 use Rattle.lines.specs.declared.kind.Kind.TheVariants.{Clause as ClauseLine, Query as QueryLine}
@@ -10,11 +10,14 @@ use Rattle.lines.specs.Limits.{line_limit}
 use Rattle.lines.specs.Lines.{then, read}
 use Rattle.lines.specs.Clauses.{clause_from, EnoughRead}
 
-pub kept_more : (limit b : ℕ) (xs : List ℕ) → length xs < limit → take limit (xs ++ b ∷ []) ≡ xs ++ b ∷ []
-kept_more limit b xs h = take_all limit (xs ++ b ∷ []) (omega (arith, length_push xs b))
+module _ (limit b : ℕ) (xs : List ℕ) (n : ℕ) where
+  pub kept_more : n < length xs → n < limit → take (n + 1) (set xs n b) ≡ take limit (take n xs ++ b ∷ [])
+  kept_more h k =
+      take_more_set xs n b h
+      ∙ sym (take_all limit (take n xs ++ b ∷ []) (omega (arith, length_push (take n xs) b, length-take-le n xs (omega arith))))
 
-pub kept_full : (limit b : ℕ) (xs : List ℕ) → length xs ≡ limit → take limit (xs ++ b ∷ []) ≡ xs
-kept_full limit b xs e = take_at xs (b ∷ []) limit e
+  pub kept_full : n ≤ length xs → n ≡ limit → take n xs ≡ take limit (take n xs ++ b ∷ [])
+  kept_full h e = sym (take_at (take n xs) (b ∷ []) limit (length-take-le n xs h ∙ e))
 
 -- a line over the limit is refused whatever it holds
 read_long : (k : Kind) (line : List ℕ) → line_limit < length line → read k line ≡ Err Length

@@ -39,7 +39,7 @@ area_place CodeWords = 3
 -- of a call: layer 3; what began in a line keeps its number, layer and place
 abbrev pub call_refusal : CallFault → Refusal
 call_refusal (Line e) = line_refusal e
-call_refusal (Limit a) = refusal 8 3 (area_place a)
+call_refusal (Limit p) = refusal 8 3 p
 call_refusal Buffer = refusal 10 3 0
 
 -- `R,number,layer,place,rule`

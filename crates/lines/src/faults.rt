@@ -1,7 +1,8 @@
 // Faults, a type for each layer; a lower layer's fault rises whole inside the next one's.
 ghost use Rattle.std.specs.Prelude.{◌≡◌};
 ghost use Rattle.lines.specs.declared.faults.LineFault.TheVariants.{Field};
-ghost use Rattle.lines.specs.declared.faults.CallFault.TheVariants.{Line};
+ghost use Rattle.lines.specs.declared.faults.CallFault.TheVariants.{Line, Limit};
+ghost use Rattle.lines.specs.Refusals.{area_place};
 
 // Of the field reader.
 #[derive(Clone, Copy, PartialEq, Eq)]
@@ -28,7 +29,7 @@ pub enum LineFault {
     Heavy { place: usize },
 }
 
-// What a deck has a limit for.
+// What a deck has a limit for, with its place in a refusal.
 #[derive(Clone, Copy, PartialEq, Eq)]
 pub enum Area {
     Clauses = 1,
@@ -40,8 +41,8 @@ pub enum Area {
 #[derive(Clone, Copy, PartialEq, Eq)]
 pub enum CallFault {
     Line(LineFault),
-    // an area would pass its limit
-    Limit(Area),
+    // the clauses (1), symbols (2) or code words (3) pass their limit; any place has a refusal
+    Limit { place: usize },
     // what is to be written is longer than the buffer
     Buffer,
 }
@@ -59,5 +60,15 @@ impl From<LineFault> for CallFault {
 
     fn from(e: LineFault) -> CallFault {
         CallFault::Line(e)
+    }
+}
+
+impl From<Area> for CallFault {
+    ghost from_gives = { λ a r. r ≡ Limit (area_place a) };
+
+    fn from(area: Area) -> CallFault {
+        CallFault::Limit {
+            place: area as usize,
+        }
     }
 }

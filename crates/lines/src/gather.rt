@@ -1,50 +1,54 @@
 // Lines gathered byte by byte, of any length, in fixed memory.
-ghost use Rattle.std.specs.Prelude.{◌≡◌, ◌≤◌, [], ◌∷◌, ◌++◌, length, take};
+ghost use Rattle.std.specs.Prelude.{◌≡◌, ◌≤◌, [], ◌∷◌, ◌++◌, take};
 ghost use Rattle.lines.specs.Clauses.{EnoughRead};
 
 use crate::line::LINE_LIMIT;
-use arrayvec::ArrayVec;
 
 // One byte more than a line may have: so much of a line tells what it is read as.
 const ENOUGH: usize = LINE_LIMIT + 1;
 
-// The beginning of a line, as much of it as tells what it is read as. No Model, which would hide its bound.
+// The beginning of a line, as much of it as tells what it is read as. An array and a length: a vector's clear, at each line's end,
+// would write over every byte that it holds. No Model, which would hide its bound.
 #[derive(Drop)]
 pub struct Gathered {
-    bytes: ArrayVec<u8, ENOUGH>,
-    ghost few: { length bytes.items ≤ 513 },
+    bytes: [u8; ENOUGH],
+    len: usize,
+    ghost within: { len ≤ 513 },
 }
 
 impl Gathered {
     pub fn new() -> Gathered
-        ensures { result.bytes.items ≡ [] }
+        ensures { take result.len result.bytes ≡ [] }
     {
         Gathered {
-            bytes: ArrayVec::new(),
+            bytes: [0; ENOUGH],
+            len: 0,
         }
     }
 
     // One byte more of the line.
     pub fn push(&mut self, b: u8)
-        ensures { self.new.bytes.items ≡ take 513 (self.old.bytes.items ++ b ∷ []) }
+        ensures { take self.new.len self.new.bytes ≡ take 513 (take self.old.len self.old.bytes ++ b ∷ []) }
     {
-        if !self.bytes.is_full() {
-            self.bytes.push(b);
+        let len = self.len;
+        if len < ENOUGH {
+            self.bytes[len] = b;
+            self.len = len + 1;
         }
     }
 
     // A new line begins.
     pub fn clear(&mut self)
-        ensures { self.new.bytes.items ≡ [] }
+        ensures { take self.new.len self.new.bytes ≡ [] }
     {
-        self.bytes.clear();
+        self.len = 0;
     }
 
     // The line, or its first bytes where it is longer than any line may be: it is read alike.
     pub fn line(&self) -> &[u8]
-        ensures value { result.now ≡ self.now.bytes.items }
+        ensures value { result.now ≡ take self.now.len self.now.bytes }
         ensures enough { EnoughRead 513 }
     {
-        self.bytes.as_slice()
+        &self.bytes[0..self.len]
     }
 }

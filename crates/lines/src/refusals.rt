@@ -1,9 +1,9 @@
 // What a fault is called: its number, its layer, the place and, for code, the rule; and the line that says so.
 ghost use Rattle.std.specs.Prelude.{◌≡◌};
 ghost use Rattle.text.specs.Buffers.{filled};
-ghost use Rattle.lines.specs.Refusals.{refusal, area_place, field_refusal, line_refusal, call_refusal, refusal_line, written};
+ghost use Rattle.lines.specs.Refusals.{refusal, field_refusal, line_refusal, call_refusal, refusal_line, written};
 
-use crate::faults::{Area, CallFault, FieldFault, LineFault};
+use crate::faults::{CallFault, FieldFault, LineFault};
 use text::write_numbers;
 
 // The bytes of a refusal, at most: a letter, and four numbers with a comma before each.
@@ -50,18 +50,9 @@ impl From<CallFault> for Refusal {
     fn from(fault: CallFault) -> Refusal {
         match fault {
             CallFault::Line(fault) => fault.into(),
-            CallFault::Limit(area) => Refusal::at(8, 3, area.place()),
+            CallFault::Limit { place } => Refusal::at(8, 3, place),
             CallFault::Buffer => Refusal::at(10, 3, 0),
         }
-    }
-}
-
-impl Area {
-    // The place that a refusal has for it.
-    fn place(self) -> usize
-        ensures { result ≡ area_place self }
-    {
-        self as usize
     }
 }
 

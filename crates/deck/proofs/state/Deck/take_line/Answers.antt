@@ -5,6 +5,7 @@ use Rattle.std.proofs.lemmas.List.{map-append}
 use Rattle.horn.specs.Clauses.{Clause}
 use Rattle.horn.specs.Weights.{clause_weight}
 use Rattle.lines.specs.Clauses.{read_clause}
+use Rattle.lines.specs.Refusals.{area_place}
 use Rattle.lines.specs.Said.{terms_of, words_left, Counted}
 use Rattle.lines.specs.declared.kind.Kind.TheVariants.{Clause as ClauseLine}
 use Rattle.lines.proofs.Counts.{counted}
@@ -58,9 +59,9 @@ returns-in_err-map_err-clause-value c =
     let s = (goal.at.returns-in_err-map_err-clause-value c).In_ok-clause in
     let full : 256 < length (note_words (signature c.args.self.now.symbols) (words_left c.in_ok-clause.clause.body)) = search rules in
     let over : 256 < length (note_words (signature c.args.self.now.symbols) (words_in (clause_of s).clause)) = omega (arith, full, ap (λ ws. length (note_words (signature c.args.self.now.symbols) ws)) (words_are s)) in
-    let is : c.in_err-map_err.field-0.0 ≡ Limit Symbols = search rules in
+    let is : c.in_err-map_err.field-0.0 ≡ Symbols = search rules in
     let p = err_from_is_err_and c.from_residual-in_err-map_err.result c.from_residual-in_err-map_err.ensures.1 in
-    p.1 ∙ ap Err (p.2 ∙ is) ∙ sym (ap (λ r. reply r tt) (adding_2 (contents c.args.self.now) c.args.line.now (clause_of s).clause (reads s) (room (goal.at.returns-in_err-map_err-clause-value c).After-is_full c.if-is_full.false) over))
+    p.1 ∙ ap Err (p.2 ∙ ap (λ area. Limit (area_place area)) is) ∙ sym (ap (λ r. reply r tt) (adding_2 (contents c.args.self.now) c.args.line.now (clause_of s).clause (reads s) (room (goal.at.returns-in_err-map_err-clause-value c).After-is_full c.if-is_full.false) over))
 
 pub overflow_add-words : goal.overflow_add-words
 overflow_add-words c = omega (arith, light (goal.at.overflow_add-words c).In_ok-clause)
@@ -73,7 +74,8 @@ returns-then-words-gt-CODE_LIMIT-clause-value c =
     let at = goal.at.returns-then-words-gt-CODE_LIMIT-clause-value c in
     let s = at.In_ok-clause in
     let noted = noting at.After-map_err c.in_ok-map_err.ensures.variant (clause_of s).clause (words_are s) in
-    sym (ap (λ r. reply r tt) (adding_3 (contents c.args.self.now) c.args.line.now (clause_of s).clause (reads s) (room at.After-is_full c.if-is_full.false)
+    ap Err c.into-then-words-gt-CODE_LIMIT.ensures
+    ∙ sym (ap (λ r. reply r tt) (adding_3 (contents c.args.self.now) c.args.line.now (clause_of s).clause (reads s) (room at.After-is_full c.if-is_full.false)
     (omega (arith, ap length noted, signature_long c.note_symbols.new.symbols, c.note_symbols.new.symbols.few))
     (omega (arith, (clause_of s).weight, (counts s).weight, c.if-words-gt-CODE_LIMIT.true))))
 

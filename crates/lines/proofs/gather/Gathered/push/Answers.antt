@@ -1,14 +1,9 @@
-use Rattle.std.proofs.Common.{sym, ◌∙◌, ◌<◌, ◌≡◌, length, arith}
-use Rattle.std.proofs.lemmas.Bool.Decides.{nat_tests}
+use Rattle.std.proofs.Common.{rules}
 use Rattle.lines.proofs.GatherLaws.{kept_more, kept_full}
 use Rattle.lines.proofs.gather.Gathered.push.Goals as goal
 
-pub returns-then-not-is_full : goal.returns-then-not-is_full
-returns-then-not-is_full c =
-    let room : length c.args.self.now.bytes.items < 513 = grind (arith, nat_tests) in
-    c.push.ensures.items ∙ sym (kept_more 513 c.args.b c.args.self.now.bytes.items room)
+pub returns-then-len-lt-ENOUGH : goal.returns-then-len-lt-ENOUGH
+returns-then-len-lt-ENOUGH c = kept_more 513 c.args.b c.args.self.now.bytes c.args.self.now.len (search rules) (search rules)
 
-pub returns-else-not-is_full : goal.returns-else-not-is_full
-returns-else-not-is_full c =
-    let full : length c.args.self.now.bytes.items ≡ 513 = grind (arith, nat_tests) in
-    sym (kept_full 513 c.args.b c.args.self.now.bytes.items full)
+pub returns-else-len-lt-ENOUGH : goal.returns-else-len-lt-ENOUGH
+returns-else-len-lt-ENOUGH c = kept_full 513 c.args.b c.args.self.now.bytes c.args.self.now.len (search rules) (search rules)
