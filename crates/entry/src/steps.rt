@@ -28,7 +28,7 @@ pub(crate) struct Registers {
     pub(crate) goals: ArrayVec<Goal, CALL_LIMIT>,
 }
 
-// Makes cells for the first `n` arguments that were put.
+// Makes cells for the first `n` arguments that were put. By number, since the place of a cell tells which argument it is.
 fn pass(store: &mut Store, slots: &mut [Option<u16>], puts: &[Operand], n: u16)
     requires within { n < length puts.now }
     requires taken { AllTaken (length slots.old) (put_at puts.now) n }

@@ -34,7 +34,7 @@ fn seat(store: &mut Store, slots: &mut [Option<u16>], table: &[u8], e: Entry)
     }
 }
 
-// Takes `n` entries from the top, and makes cells for them; answers the place of the first.
+// Takes `n` entries from the top, and makes cells for them; answers the place of the first. By number, since the place of a cell tells which argument it is.
 pub(crate) fn seat_all(
     store: &mut Store,
     slots: &mut [Option<u16>],
