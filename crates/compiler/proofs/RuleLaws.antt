@@ -29,10 +29,13 @@ use Rattle.compiler.proofs.OrderRule.{ordered, counted}
 use Rattle.compiler.proofs.FrameRule.{Framed, framed}
 use Rattle.compiler.proofs.StepLaws.{Coded}
 
-arities_at : (sig : Signature) (f : ℕ) → get_or (arities_of sig) f 0 ≡ arity_at sig f
+pub arities_at : (sig : Signature) (f : ℕ) → get_or (arities_of sig) f 0 ≡ arity_at sig f
 arities_at [] f = refl
 arities_at (s ∷ sig) zero = refl
 arities_at (s ∷ sig) (suc f) = arities_at sig f
+
+pub arities_long : (sig : Signature) → length (arities_of sig) ≡ length sig
+arities_long sig = length-map sig (λ s. s.arity)
 
 module _ (n : ℕ) (sig : Signature) where
   abbrev ar : List ℕ
@@ -45,7 +48,7 @@ module _ (n : ℕ) (sig : Signature) where
   argument_in a h = and_from _ _ (le-leb 1 a h.0) (le-leb a 8 h.1)
 
   known_in : (f : ℕ) → f < length sig → ltb f (length ar) ≡ true
-  known_in f h = lt-ltb f (length ar) (omega (arith, length-map sig (λ s. s.arity)))
+  known_in f h = lt-ltb f (length ar) (omega (arith, arities_long sig))
 
   constant_in : (c : ℕ) → (c < length sig) × (arity_at sig c ≡ 0) → (ltb c (length ar) && eqb (get_or ar c 0) 0) ≡ true
   constant_in c h = and_from _ _ (known_in c h.0) (eq-eqb (get_or ar c 0) 0 (arities_at sig c ∙ h.1))
