@@ -3,7 +3,7 @@
 
 use lines::Gathered;
 use prolog::{Verdict, proof_line};
-use std::alloc::Global;
+use std::alloc::{AllocError, Global};
 use std::io::{BufWriter, Read, Write};
 use std::{fmt, io};
 
@@ -42,7 +42,7 @@ impl fmt::Display for Totals {
     }
 }
 
-// The line under way, what stands for it, and the totals.
+// The line under way, what stands for the lines before it that is still to be printed, and the totals.
 #[derive(Drop)]
 struct Proofreader {
     line: Gathered,
@@ -60,24 +60,29 @@ impl Proofreader {
     }
 
     // Some bytes more of the deck: LF ends a line.
-    fn take(&mut self, bytes: &[u8], output: &mut impl Write) -> io::Result<()> {
+    fn take(&mut self, bytes: &[u8]) -> Result<(), AllocError> {
         for byte in bytes {
             match *byte {
-                b'\n' => self.end_line(output)?,
+                b'\n' => self.end_line()?,
                 b => self.line.push(b),
             }
         }
         Ok(())
     }
 
-    // The line ends, and what stands for it is printed.
-    fn end_line(&mut self, output: &mut impl Write) -> io::Result<()> {
+    fn end_line(&mut self) -> Result<(), AllocError> {
         self.totals.lines = self.totals.lines.saturating_add(1);
-        self.text.clear();
         let verdict = proof_line(self.totals.lines, self.line.line(), &mut self.text)?;
         self.totals.count(verdict);
         self.line.clear();
-        output.write_all(self.text.as_slice())
+        Ok(())
+    }
+
+    // Prints what is still to be printed.
+    fn print(&mut self, output: &mut impl Write) -> io::Result<()> {
+        output.write_all(self.text.as_slice())?;
+        self.text.clear();
+        Ok(())
     }
 }
 
@@ -85,18 +90,20 @@ fn main(rt: HostRuntime) -> io::Result<()> {
     let mut input = rt.stdin();
     let mut output = BufWriter::new(rt.alloc(), rt.stdout())?;
     let mut reader = Proofreader::new(rt.alloc());
-    // bytes that a reader hands out one by one cost more than all else that is done with them
+    // bytes that a reader hands out one by one, or lines printed one by one, cost more than all else that is done with them
     let mut chunk = [0; 4096];
     for _ in 0..u64::MAX {
         let n = input.read(&mut chunk)?;
         if n == 0 {
             break;
         }
-        reader.take(&chunk[..n], &mut output)?;
+        reader.take(&chunk[..n])?;
+        reader.print(&mut output)?;
     }
     // a last line without LF is a line
     if !reader.line.line().is_empty() {
-        reader.end_line(&mut output)?;
+        reader.end_line()?;
+        reader.print(&mut output)?;
     }
     let totals = reader.totals;
     writeln!(output, "% {totals}")?;
