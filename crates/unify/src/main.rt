@@ -6,16 +6,18 @@ mod parts;
 mod problem;
 mod writing;
 
+use cells::Store;
 use parts::INPUT_LIMIT;
 use problem::Problem;
 use std::alloc::Global;
 use std::io;
 use std::io::{BufWriter, Read, Write};
 
-// The line under way, with at most one byte too many, what answers it, and the answer.
+// The line under way, with at most one byte too many, the cells, what else answers it, and the answer.
 #[derive(Drop)]
 struct Matcher {
     line: Vec<u8>,
+    store: Store,
     problem: Problem,
     text: Vec<u8>,
 }
@@ -24,6 +26,7 @@ impl Matcher {
     fn new(heap: Global) -> Matcher {
         Matcher {
             line: Vec::new(heap),
+            store: Store::new(),
             problem: Problem::new(),
             text: Vec::new(heap),
         }
@@ -44,7 +47,8 @@ impl Matcher {
     // The line ends, and its answer is printed.
     fn end_line(&mut self, output: &mut impl Write) -> io::Result<()> {
         self.text.clear();
-        self.problem.answer(self.line.as_slice(), &mut self.text)?;
+        self.problem
+            .answer(&mut self.store, self.line.as_slice(), &mut self.text)?;
         self.line.clear();
         output.write_all(self.text.as_slice())
     }

@@ -20,8 +20,8 @@ const BUCKETS: usize = 256;
 #[derive(Clone, Copy, Default)]
 pub(crate) struct Part {
     // where its field begins and ends in the line
-    start: usize,
-    end: usize,
+    start: u16,
+    end: u16,
     // the place of the first part that stands for the same symbol or variable; a lone `_` is like no other
     pub(crate) first: u16,
     // the arity of its symbol; a variable has none
@@ -32,7 +32,7 @@ pub(crate) struct Part {
 
 impl Part {
     // The part that a token is, whose field begins at `start`, as if none were like it.
-    fn of(token: Token<'_>, start: usize, here: u16) -> Part {
+    fn of(token: Token<'_>, start: u16, here: u16) -> Part {
         let (len, arity) = match token {
             Token::Name(name) => (name.len(), Some(0)),
             Token::Structure(name, arity) => (name.len() + 2, Some(arity)),
@@ -40,7 +40,7 @@ impl Part {
         };
         Part {
             start,
-            end: start.saturating_add(len),
+            end: start.saturating_add(u16::try_from(len).unwrap_or(u16::MAX)),
             first: here,
             arity,
             before: None,
@@ -49,7 +49,8 @@ impl Part {
 
     // Its field.
     pub(crate) fn field(self, line: &[u8]) -> &[u8] {
-        line.get(self.start..self.end).unwrap_or(&[])
+        line.get(self.start as usize..self.end as usize)
+            .unwrap_or(&[])
     }
 }
 
@@ -143,7 +144,7 @@ impl Parts {
             return None;
         }
         let mut fields = Fields::of(line);
-        let mut start = 2;
+        let mut start = 2u16;
         while let Some(token) = fields.next_token() {
             let part = Part::of(token, start, self.parts.len() as u16);
             start = part.end.saturating_add(1);

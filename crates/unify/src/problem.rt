@@ -84,12 +84,11 @@ fn solve(
     written
 }
 
-// What answers a line, in memory that serves for every line.
+// What answers a line beside the store, in memory that serves for every line.
 #[derive(Drop)]
 pub(crate) struct Problem {
     parts: Parts,
     draft: Draft,
-    store: Store,
     writer: TermWriter,
 }
 
@@ -98,23 +97,20 @@ impl Problem {
         Problem {
             parts: Parts::new(),
             draft: Draft::new(),
-            store: Store::new(),
             writer: TermWriter::new(),
         }
     }
 
     // Writes the answer to a line.
-    pub(crate) fn answer(&mut self, line: &[u8], text: &mut Vec<u8>) -> Result<(), AllocError> {
+    pub(crate) fn answer(
+        &mut self,
+        store: &mut Store,
+        line: &[u8],
+        text: &mut Vec<u8>,
+    ) -> Result<(), AllocError> {
         let Some(parts) = self.parts.read(line) else {
             return text.extend_from_slice(REFUSED);
         };
-        solve(
-            &mut self.store,
-            line,
-            parts,
-            &mut self.draft,
-            &mut self.writer,
-            text,
-        )
+        solve(store, line, parts, &mut self.draft, &mut self.writer, text)
     }
 }
