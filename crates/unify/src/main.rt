@@ -13,7 +13,10 @@ use std::alloc::Global;
 use std::io;
 use std::io::{BufWriter, Read, Write};
 
-// The line under way, with at most one byte too many, the cells, what else answers it, and the answer.
+// So many bytes of answers are printed before the next line.
+const TEXT_LIMIT: usize = 4096;
+
+// The line under way, with at most one byte too many, the cells, what else answers it, and the answers that are still to be printed.
 #[derive(Drop)]
 struct Matcher {
     line: Vec<u8>,
@@ -41,16 +44,25 @@ impl Matcher {
                 _ => {}
             }
         }
-        Ok(())
+        self.print(output)
     }
 
-    // The line ends, and its answer is printed.
+    // The line ends. Its answer is kept for the others of its bytes, but where that would grow long.
     fn end_line(&mut self, output: &mut impl Write) -> io::Result<()> {
-        self.text.clear();
         self.problem
             .answer(&mut self.store, self.line.as_slice(), &mut self.text)?;
         self.line.clear();
-        output.write_all(self.text.as_slice())
+        if self.text.len() >= TEXT_LIMIT {
+            self.print(output)?;
+        }
+        Ok(())
+    }
+
+    // Prints the answers that are kept.
+    fn print(&mut self, output: &mut impl Write) -> io::Result<()> {
+        output.write_all(self.text.as_slice())?;
+        self.text.clear();
+        Ok(())
     }
 }
 
